@@ -7,7 +7,8 @@ use Rattle.abs_memory.specs.Finding.{Ascend, places_below}
 use Rattle.abs_memory.proofs.Places.{cell_from_place}
 
 -- one that goes
-pub pass_without : (f : Cell → Option Cell) (cells all front : List Cell) (index : ℕ) (cell : Cell) → index < length cells → cell ≡ get_or cells index cell
+pub pass_without : (f : Cell → Option Cell) (cells all front : List Cell) (index : ℕ) (cell : Cell)
+    → index < length cells → cell ≡ get_or cells index cell
     → f cell ≡ None → front ++ kept f (drop index cells) ≡ all → front ++ kept f (drop (index + 1) cells) ≡ all
 pass_without f cells all front index cell lt is goes e =
     let step : kept f (drop index cells) ≡ kept f (drop (index + 1) cells) =
@@ -15,7 +16,8 @@ pass_without f cells all front index cell lt is goes e =
     ap (λ rest. front ++ rest) (sym step) ∙ e
 
 -- one that stays, perhaps changed
-pub pass_with : (f : Cell → Option Cell) (cells all front : List Cell) (index : ℕ) (cell new : Cell) → index < length cells → cell ≡ get_or cells index cell
+pub pass_with : (f : Cell → Option Cell) (cells all front : List Cell) (index : ℕ) (cell new : Cell)
+    → index < length cells → cell ≡ get_or cells index cell
     → f cell ≡ Some new → front ++ kept f (drop index cells) ≡ all → (front ++ new ∷ []) ++ kept f (drop (index + 1) cells) ≡ all
 pass_with f cells all front index cell new lt is stays e =
     let step : kept f (drop index cells) ≡ new ∷ kept f (drop (index + 1) cells) =
@@ -23,7 +25,8 @@ pass_with f cells all front index cell new lt is stays e =
     append_assoc front (new ∷ []) (kept f (drop (index + 1) cells)) ∙ ap (λ rest. front ++ rest) (sym step) ∙ e
 
 -- it is put behind those that stay, in place
-pub pass_in_place : (f : Cell → Option Cell) (cells all : List Cell) (count index : ℕ) (cell new : Cell) → count ≤ index → index < length cells → cell ≡ get_or cells index cell
+pub pass_in_place : (f : Cell → Option Cell) (cells all : List Cell) (count index : ℕ) (cell new : Cell) → count ≤ index
+    → index < length cells → cell ≡ get_or cells index cell
     → f cell ≡ Some new → take count cells ++ kept f (drop index cells) ≡ all
     → take (count + 1) (set cells count new) ++ kept f (drop (index + 1) (set cells count new)) ≡ all
 pass_in_place f cells all count index cell new le lt is stays e =
@@ -39,13 +42,15 @@ pub record Follows (new others rest : List Cell) : Type 0 where
 pub follows_all : (new rest : List Cell) → Ascend 0 rest → Follows new new rest
 follows_all new rest h = record { from = 0; ascend = h; same = λ place size le. refl }
 
-head_rest : (from : ℕ) (rest : List Cell) (index : ℕ) (cell : Cell) → index < length rest → cell ≡ get_or rest index cell → Ascend from (drop index rest)
+head_rest : (from : ℕ) (rest : List Cell) (index : ℕ) (cell : Cell) → index < length rest
+    → cell ≡ get_or rest index cell → Ascend from (drop index rest)
     → (from ≤ cell.place) × (1 ≤ cell.size) × Ascend (cell.place + cell.size) (drop (index + 1) rest)
 head_rest from rest index cell lt is h = rw (drop_more rest index cell lt, sym is) at h
 
 -- the word of the next one is looked up in what is left
 pub follows_here : (new others rest : List Cell) (index : ℕ) (cell : Cell) → index < length rest → cell ≡ get_or rest index cell
-    → Follows new others (drop index rest) → cell_at (drop (places_below others cell.place) others) cell.place cell.size ≡ cell_at new cell.place cell.size
+    → Follows new others (drop index rest)
+    → cell_at (drop (places_below others cell.place) others) cell.place cell.size ≡ cell_at new cell.place cell.size
 follows_here new others rest index cell lt is follows =
     let head = head_rest follows.from rest index cell lt is follows.ascend in
     sym (cell_from_place others cell.place cell.place cell.size (omega arith)) ∙ follows.same cell.place cell.size head.0
@@ -61,11 +66,13 @@ follows_on new others rest index cell lt is follows =
           sym (cell_from_place others cell.place place size (omega arith)) ∙ follows.same place size (omega (arith, head.0));
     }
 
-pub pass_end : (f : Cell → Option Cell) (cells all front : List Cell) (index : ℕ) → length cells ≤ index → front ++ kept f (drop index cells) ≡ all → front ≡ all
+pub pass_end : (f : Cell → Option Cell) (cells all front : List Cell) (index : ℕ) → length cells ≤ index
+    → front ++ kept f (drop index cells) ≡ all → front ≡ all
 pass_end f cells all front index le e =
     let nothing : kept f (drop index cells) ≡ [] = rw (drop_all index cells le) refl in
     sym (append-nil front) ∙ ap (λ rest. front ++ rest) (sym nothing) ∙ e
 
 pub within_here : (new held : List Cell) (index : ℕ) (cell : Cell) (found : Bool) → index < length held → cell ≡ get_or held index cell
-    → is_found_within (cell_at new cell.place cell.size) cell.word ≡ found → are_within new (drop index held) ≡ (found && are_within new (drop (index + 1) held))
+    → is_found_within (cell_at new cell.place cell.size) cell.word ≡ found
+    → are_within new (drop index held) ≡ (found && are_within new (drop (index + 1) held))
 within_here new held index cell found lt is e = rw (drop_more held index cell lt, sym is, e) (λ i. found && are_within new (drop (index + 1) held))

@@ -14,7 +14,8 @@ pub ascend_lower : (from lower : ℕ) (cells : List Cell) → lower ≤ from →
 ascend_lower from lower [] le h = tt
 ascend_lower from lower (cell ∷ cells) le (at, some, rest) = (omega arith, some, rest)
 
-pub places_least : (from : ℕ) (cells : List Cell) (j : ℕ) (d : Cell) → Ascend from cells → j < length cells → from ≤ (get_or cells j d).place
+pub places_least : (from : ℕ) (cells : List Cell) (j : ℕ) (d : Cell) → Ascend from cells → j < length cells
+    → from ≤ (get_or cells j d).place
 places_least from [] j d h lt = absurd (omega arith)
 places_least from (cell ∷ cells) zero d h lt = h.0
 places_least from (cell ∷ cells) (suc j) d (at, some, rest) lt =
@@ -40,7 +41,8 @@ ascend_from_place from at (cell ∷ cells) (le, some, rest) =
     ]
 
 -- no cell of a place stands in front of it
-pub cell_from_place : (cells : List Cell) (at place size : ℕ) → at ≤ place → cell_at cells place size ≡ cell_at (drop (places_below cells at) cells) place size
+pub cell_from_place : (cells : List Cell) (at place size : ℕ) → at ≤ place
+    → cell_at cells place size ≡ cell_at (drop (places_below cells at) cells) place size
 cell_from_place [] at place size le = refl
 cell_from_place (cell ∷ cells) at place size le =
     elim (cases_lt cell.place at) [
@@ -84,7 +86,8 @@ none_at_last from (cell ∷ cells) at (suc k) d (le, some, rest) e other =
     let ends : cell.place + cell.size < at + 1 = from_is_below (cell.place + cell.size) cells (at + 1) k rest behind in
     grind (arith, nat_tests)
 
-first_not : (first : Cell) (cells : List Cell) (place size : ℕ) → (first.place ≡ place → first.size ≡ size → ⊥) → cell_at cells place size ≡ None
+first_not : (first : Cell) (cells : List Cell) (place size : ℕ) → (first.place ≡ place → first.size ≡ size → ⊥)
+    → cell_at cells place size ≡ None
     → None ≡ cell_at (first ∷ cells) place size
 first_not first cells place size other others = grind (arith, nat_tests)
 
@@ -139,18 +142,21 @@ byte_of_owner from (cell ∷ cells) at (suc index) owner (le, some, rest) lt is 
 abbrev pub Owns : List Cell → (at index : ℕ) → Type 0
 Owns cells at index = (index < length cells) × ((d : Cell) → has_byte (get_or cells index d) at ≡ true)
 
-owner_byte : (cells : List Cell) (at index : ℕ) (owner : Cell) → Ascend 0 cells → Owns cells at index → ((d : Cell) → owner ≡ get_or cells index d)
+owner_byte : (cells : List Cell) (at index : ℕ) (owner : Cell) → Ascend 0 cells → Owns cells at index
+    → ((d : Cell) → owner ≡ get_or cells index d)
     → byte_at cells at ≡ Some (if at == owner.place then low_set owner.word.set else high_set owner.word.set)
 owner_byte cells at index owner h owns is =
     byte_of_owner 0 cells at index owner h owns.0 is (subst (λ cell. has_byte cell at ≡ true) (sym (is owner)) (owns.1 owner))
 
-pub low_byte_of : (cells : List Cell) (at index : ℕ) (owner : Cell) → Ascend 0 cells → Owns cells at index → ((d : Cell) → owner ≡ get_or cells index d)
+pub low_byte_of : (cells : List Cell) (at index : ℕ) (owner : Cell) → Ascend 0 cells → Owns cells at index
+    → ((d : Cell) → owner ≡ get_or cells index d)
     → owner.place ≡ at → Some (low_set owner.word.set) ≡ byte_at cells at
 low_byte_of cells at index owner h owns is here =
     let test : (at == owner.place) ≡ true = grind (arith, nat_tests) in
     sym (owner_byte cells at index owner h owns is ∙ rw test refl)
 
-pub high_byte_of : (cells : List Cell) (at index : ℕ) (owner : Cell) → Ascend 0 cells → Owns cells at index → ((d : Cell) → owner ≡ get_or cells index d)
+pub high_byte_of : (cells : List Cell) (at index : ℕ) (owner : Cell) → Ascend 0 cells → Owns cells at index
+    → ((d : Cell) → owner ≡ get_or cells index d)
     → (owner.place ≡ at → ⊥) → Some (high_set owner.word.set) ≡ byte_at cells at
 high_byte_of cells at index owner h owns is other =
     let test : (at == owner.place) ≡ false = grind (arith, nat_tests) in
@@ -194,7 +200,8 @@ next_is_at [] from = refl
 next_is_at (cell ∷ cells) from =
     elim (cases_Bool (ltb cell.place from)) [ inl below ↦ rw below (next_is_at cells from) | inr above ↦ rw above refl ]
 
-pub next_is_there : (cells : List Cell) (from : ℕ) (cell : Cell) → places_below cells from < length cells → cell ≡ get_or cells (places_below cells from) cell
+pub next_is_there : (cells : List Cell) (from : ℕ) (cell : Cell) → places_below cells from < length cells
+    → cell ≡ get_or cells (places_below cells from) cell
     → next cells from ≡ Some cell
 next_is_there cells from cell lt is = next_is_at cells from ∙ slice_get-get_or cells (places_below cells from) cell lt ∙ ap Some (sym is)
 

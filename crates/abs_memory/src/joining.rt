@@ -102,7 +102,8 @@ fn low_marks(alloc: Global, marks: &[u16]) -> Result<Vec<u8>, AllocError>
 
 /// A word widened as a byte, by the marks below 100h.
 fn byte_widened(held: &Word, new: &Word, low: &[u8]) -> Word
-    ensures { (marks : List ℕ) → low.now ≡ filter (λ mark. nat_lt mark 256) marks → result ≡ the_cells.byte_widened held.now new.now marks }
+    ensures { (marks : List ℕ) → low.now ≡ filter (λ mark. nat_lt mark 256) marks
+        → result ≡ the_cells.byte_widened held.now new.now marks }
 {
     let entry = common(&held.entry, &new.entry);
     if new.set.within(&held.set) {

@@ -28,7 +28,8 @@ byte_of None front = high_of front
 byte_of (Some begun) front = Some (low_set begun.1.set)
 
 -- a cell that begins neither at an address nor in front of it hasn't its byte
-far : (cell : Cell) (at : ℕ) → (cell.size ≡ 1) ⊎ (cell.size ≡ 2) → (cell.place ≡ at → ⊥) → (cell.place ≡ at - 1 → ⊥) → has_byte cell at ≡ false
+far : (cell : Cell) (at : ℕ) → (cell.size ≡ 1) ⊎ (cell.size ≡ 2) → (cell.place ≡ at → ⊥) → (cell.place ≡ at - 1 → ⊥)
+    → has_byte cell at ≡ false
 far cell at size other away = elim (cases_lt at cell.place) [
   | inl above ↦ and_left (nat_le cell.place at) (nat_lt at (cell.place + cell.size)) (lt-leb cell.place at above)
   | inr le ↦ and_right (nat_le cell.place at) (nat_lt at (cell.place + cell.size)) (le-ltb at (cell.place + cell.size) (elim size [
@@ -61,7 +62,8 @@ none_sized lo hi from [] at size are lt = refl
 none_sized lo hi from (cell ∷ cells) at size are lt =
     rw (ne_eqb cell.place at (λ same. omega (arith, same, are.1, lt))) (none_sized lo hi (cell.place + cell.size) cells at size are.2 (omega (arith, are.1, lt)))
 
-pub cell_begun : (lo hi from : ℕ) (cells : List Cell) (at size : ℕ) → AreCells lo hi from cells → sized (begun_at cells at) size ≡ cell_at cells at size
+pub cell_begun : (lo hi from : ℕ) (cells : List Cell) (at size : ℕ) → AreCells lo hi from cells
+    → sized (begun_at cells at) size ≡ cell_at cells at size
 cell_begun lo hi from [] at size are = refl
 cell_begun lo hi from (cell ∷ cells) at size are = elim (cases_Bool (cell.place == at)) [
   | inl here ↦ elim (cases_Bool (cell.size == size)) [
@@ -85,7 +87,8 @@ same_front : (here one other : Option (ℕ × Word)) → high_of one ≡ high_of
 same_front None one other e = e
 same_front (Some begun) one other e = refl
 
-byte_step : (lo hi : ℕ) (cell : Cell) (cells : List Cell) (at : ℕ) → (cell.size ≡ 1) ⊎ (cell.size ≡ 2) → AreCells lo hi (cell.place + cell.size) cells
+byte_step : (lo hi : ℕ) (cell : Cell) (cells : List Cell) (at : ℕ) → (cell.size ≡ 1) ⊎ (cell.size ≡ 2)
+    → AreCells lo hi (cell.place + cell.size) cells
     → byte_of (begun_at cells at) (begun_at cells (at - 1)) ≡ byte_at cells at → (cell.place ≡ at → ⊥)
     → byte_of (begun_at (cell ∷ cells) at) (begun_at (cell ∷ cells) (at - 1)) ≡ byte_at (cell ∷ cells) at
 byte_step lo hi cell cells at size are same other =
@@ -122,7 +125,8 @@ byte_step lo hi cell cells at size are same other =
           ∙ (ap (byte_of (begun_at cells at)) front ∙ (same ∙ sym bytes))
     ]
 
-pub byte_begun : (lo hi from : ℕ) (cells : List Cell) (at : ℕ) → AreCells lo hi from cells → byte_of (begun_at cells at) (begun_at cells (at - 1)) ≡ byte_at cells at
+pub byte_begun : (lo hi from : ℕ) (cells : List Cell) (at : ℕ) → AreCells lo hi from cells
+    → byte_of (begun_at cells at) (begun_at cells (at - 1)) ≡ byte_at cells at
 byte_begun lo hi from [] at are = refl
 byte_begun lo hi from (cell ∷ cells) at are = elim (cases_eq cell.place at) [
   | inl here ↦
@@ -142,12 +146,14 @@ shown_begun : (found : Option Cell) (at : ℕ) → begun_shown (option_map shown
 shown_begun None at = refl
 shown_begun (Some cell) at = refl
 
-pub begun_is : (lo hi from : ℕ) (cells : List Cell) (at : ℕ) (found : Option (ℕ × ℕ × Word)) (answer : Option (ℕ × Word)) → AreCells lo hi from cells
+pub begun_is : (lo hi from : ℕ) (cells : List Cell) (at : ℕ) (found : Option (ℕ × ℕ × Word)) (answer : Option (ℕ × Word))
+    → AreCells lo hi from cells
     → found ≡ option_map shown (next cells at) → begun_shown found at ≡ answer → answer ≡ begun_at cells at
 begun_is lo hi from cells at found answer are is e =
     sym e ∙ (ap (λ one. begun_shown one at) is ∙ (shown_begun (next cells at) at ∙ begun_next lo hi from cells at are))
 
-pub cell_is : (lo hi from : ℕ) (cells : List Cell) (at size : ℕ) (begun : Option (ℕ × Word)) (answer : Option Word) → AreCells lo hi from cells
+pub cell_is : (lo hi from : ℕ) (cells : List Cell) (at size : ℕ) (begun : Option (ℕ × Word)) (answer : Option Word)
+    → AreCells lo hi from cells
     → begun ≡ begun_at cells at → sized begun size ≡ answer → answer ≡ cell_at cells at size
 cell_is lo hi from cells at size begun answer are is e = sym e ∙ (ap (λ one. sized one size) is ∙ cell_begun lo hi from cells at size are)
 

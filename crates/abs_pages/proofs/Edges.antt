@@ -54,7 +54,8 @@ front_away cells at one size begun none other =
     ])
 
 behind_away : (cells : List Cell) (at : ℕ) (one : Cell) → at < 65536 → (one.size ≡ 1) ⊎ (one.size ≡ 2) → Begins cells one
-    → ((at % 32 == 31) && is_some (begun_at cells (next_address at))) ≡ false → (one.place / 32 ≡ at / 32 → ⊥) → has_byte one (next_address at) ≡ false
+    → ((at % 32 == 31) && is_some (begun_at cells (next_address at))) ≡ false → (one.place / 32 ≡ at / 32 → ⊥)
+    → has_byte one (next_address at) ≡ false
 behind_away cells at one lt size begun none other =
     false_from_ne_true (has_byte one (next_address at)) (λ has. elim (begins one (next_address at) size has) [
       | inl here ↦ elim (cases_eq (at % 32) 31) [
@@ -67,7 +68,8 @@ behind_away cells at one lt size begun none other =
       | inr front ↦ other (omega (arith, front, lt))
     ])
 
-away : (lo hi : ℕ) (cells : List Cell) (cell one : Cell) → cell.place < 65536 → is_met_beside cells cell.place cell.size ≡ false → IsCell lo hi one → Begins cells one
+away : (lo hi : ℕ) (cells : List Cell) (cell one : Cell) → cell.place < 65536
+    → is_met_beside cells cell.place cell.size ≡ false → IsCell lo hi one → Begins cells one
     → (one.place / 32 ≡ cell.place / 32 → ⊥) → meets cell.place cell.size one ≡ false
 away lo hi cells cell one lt inner is begun other =
     let at = cell.place in
@@ -91,7 +93,8 @@ stays_inner lo hi cells cell one lt inner is begun = elim (cases_eq (one.place /
   | inr other ↦ rw (ne_eqb (one.place / 32) (cell.place / 32) other, away lo hi cells cell one lt inner is begun other) refl
 ]
 
-pub inner_written : (lo hi from : ℕ) (cell : Cell) (old new : List Cell) → cell.place < 65536 → is_met_beside old cell.place cell.size ≡ false → AreCells lo hi from old
+pub inner_written : (lo hi from : ℕ) (cell : Cell) (old new : List Cell) → cell.place < 65536
+    → is_met_beside old cell.place cell.size ≡ false → AreCells lo hi from old
     → new ≡ with_cell lo hi cell (filter (stays (cell.place / 32) cell) old) → new ≡ with_written lo hi cell old
 inner_written lo hi from cell old new lt inner are put =
     put ∙ ap (with_cell lo hi cell)
@@ -137,7 +140,8 @@ first_goes cell one size has = elim (begins one cell.place size has) [
   | inr front ↦ inl (goes ((cell.place - 1) / 32) cell.place one (omega (arith, front)) has)
 ]
 
-second_goes : (cell one : Cell) → cell.place < 65536 → (one.size ≡ 1) ⊎ (one.size ≡ 2) → (cell.size == 2) ≡ true → has_byte one (next_address cell.place) ≡ true
+second_goes : (cell one : Cell) → cell.place < 65536 → (one.size ≡ 1) ⊎ (one.size ≡ 2) → (cell.size == 2) ≡ true
+    → has_byte one (next_address cell.place) ≡ true
     → (stays (next_address cell.place / 32) (nothing (next_address cell.place)) one ≡ false) ⊎ (stays (cell.place / 32) cell one ≡ false)
 second_goes cell one lt size two has = elim (begins one (next_address cell.place) size has) [
   | inl here ↦ inl (goes (next_address cell.place / 32) (next_address cell.place) one (ap (λ (n : ℕ). n / 32) here) has)
@@ -159,7 +163,8 @@ one_byte_same cell one single size = elim (cases_Bool (has_byte one cell.place))
       rw (has_not ((cell.place - 1) / 32) cell.place one free, stays_unmet (cell.place / 32) cell one unmeets) (sym (ap not unmeets))
 ]
 
-two_bytes_same : (cell one : Cell) → cell.place < 65536 → cell.size ≡ 2 → (one.size ≡ 1) ⊎ (one.size ≡ 2) → all_three cell one ≡ unmet cell one
+two_bytes_same : (cell one : Cell) → cell.place < 65536 → cell.size ≡ 2 → (one.size ≡ 1) ⊎ (one.size ≡ 2)
+    → all_three cell one ≡ unmet cell one
 two_bytes_same cell one lt double size =
     let front = stays ((cell.place - 1) / 32) (nothing cell.place) one in
     let behind = stays (next_address cell.place / 32) (nothing (next_address cell.place)) one in
@@ -202,7 +207,8 @@ abbrev pub IsPut : (lo hi number : ℕ) → Cell → (old new : List Cell) → T
 IsPut lo hi number cell old new = new ≡ with_cell lo hi cell (filter (stays number cell) old)
 
 pub edge_of_one : (lo hi from : ℕ) (cell : Cell) (old first new : List Cell) → cell.size ≡ 1 → is_nothing 1 (unknown 1) ≡ true
-    → AreCells lo hi from old → IsPut lo hi ((cell.place - 1) / 32) (nothing cell.place) old first → IsPut lo hi (cell.place / 32) cell first new
+    → AreCells lo hi from old → IsPut lo hi ((cell.place - 1) / 32) (nothing cell.place) old first
+    → IsPut lo hi (cell.place / 32) cell first new
     → new ≡ with_written lo hi cell old
 edge_of_one lo hi from cell old first new single h are front own =
     let one : first ≡ filter (stays ((cell.place - 1) / 32) (nothing cell.place)) old = front ∙ put_nothing lo hi cell.place _ h in
@@ -212,9 +218,11 @@ edge_of_one lo hi from cell old first new single h are front own =
     ∙ filter_same (front_and_own cell) (unmet cell) old
     (each_then (IsCell lo hi) (λ c. front_and_own cell c ≡ unmet cell c) old (λ c is. one_byte_same cell c single is.size) (each_cell lo hi from old are))))
 
-pub edge_of_two : (lo hi from : ℕ) (cell : Cell) (old first second new : List Cell) → cell.place < 65536 → cell.size ≡ 2 → is_nothing 1 (unknown 1) ≡ true
+pub edge_of_two : (lo hi from : ℕ) (cell : Cell) (old first second new : List Cell) → cell.place < 65536 → cell.size ≡ 2
+    → is_nothing 1 (unknown 1) ≡ true
     → AreCells lo hi from old → IsPut lo hi ((cell.place - 1) / 32) (nothing cell.place) old first
-    → IsPut lo hi (next_address cell.place / 32) (nothing (next_address cell.place)) first second → IsPut lo hi (cell.place / 32) cell second new
+    → IsPut lo hi (next_address cell.place / 32) (nothing (next_address cell.place)) first second
+    → IsPut lo hi (cell.place / 32) cell second new
     → new ≡ with_written lo hi cell old
 edge_of_two lo hi from cell old first second new lt double h are front behind own =
     let p = stays ((cell.place - 1) / 32) (nothing cell.place) in

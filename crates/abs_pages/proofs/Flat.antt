@@ -37,14 +37,16 @@ each_page_drop P zero pages h = h
 each_page_drop P (suc n) [] h = tt
 each_page_drop P (suc n) (page ∷ pages) h = each_page_drop P n pages h.1
 
-pub each_page_at : (P : Paged → Type 0) (pages : List Paged) (i : ℕ) (d : Paged) → EachPage P pages → i < length pages → P (get_or pages i d)
+pub each_page_at : (P : Paged → Type 0) (pages : List Paged) (i : ℕ) (d : Paged) → EachPage P pages → i < length pages
+    → P (get_or pages i d)
 each_page_at P [] i d h lt = absurd (omega arith)
 each_page_at P (page ∷ pages) zero d h lt = h.0
 each_page_at P (page ∷ pages) (suc i) d h lt = each_page_at P pages i d h.1 (omega arith)
 
 -- WHERE CELLS LIE
 
-pub flat_behind : (from : ℕ) (pages : List Paged) → Rise from pages → EachPage IsPage pages → Each (λ cell. from ≤ cell.place / 32) (flat pages)
+pub flat_behind : (from : ℕ) (pages : List Paged) → Rise from pages → EachPage IsPage pages
+    → Each (λ cell. from ≤ cell.place / 32) (flat pages)
 flat_behind from [] rise each = tt
 flat_behind from (page ∷ pages) rise each =
     each_append (λ cell. from ≤ cell.place / 32) page.map.cells (flat pages)
@@ -110,7 +112,8 @@ none_from from [] number h lt = refl
 none_from from (page ∷ pages) number h lt =
     rw (ne_eqb page.number number (λ same. omega (arith, same, h.0, lt))) (none_from (page.number + 1) pages number h.1 (omega (arith, h.0, lt)))
 
-pub none_at_end : (from : ℕ) (pages : List Paged) (number : ℕ) → Rise from pages → length pages ≤ pages_below pages number → has_page pages number ≡ false
+pub none_at_end : (from : ℕ) (pages : List Paged) (number : ℕ) → Rise from pages
+    → length pages ≤ pages_below pages number → has_page pages number ≡ false
 none_at_end from [] number h e = refl
 none_at_end from (page ∷ pages) number h e = elim (cases_lt page.number number) [
   | inl lt ↦
@@ -141,7 +144,8 @@ cells_none (page ∷ pages) number h = elim (cases_Bool (page.number == number))
 ]
 
 pub cells_found : (pages : List Paged) (number : ℕ) (d : Paged) → pages_below pages number < length pages
-    → (get_or pages (pages_below pages number) d).number ≡ number → (get_or pages (pages_below pages number) d).map.cells ≡ cells_at pages number
+    → (get_or pages (pages_below pages number) d).number ≡ number
+    → (get_or pages (pages_below pages number) d).map.cells ≡ cells_at pages number
 cells_found [] number d lt is = absurd (omega arith)
 cells_found (page ∷ pages) number d lt is = elim (cases_lt page.number number) [
   | inl below ↦
@@ -168,17 +172,20 @@ each_of : (cells : List Cell) (P : Cell → Type 0) → ((cell : Cell) → P cel
 each_of [] P f = tt
 each_of (cell ∷ cells) P f = (f cell, each_of cells P f)
 
-each_looked : (pages : List Paged) (number : ℕ) (cells : List Cell) → Rise 0 pages → EachPage IsPage pages → Each (λ cell. cell.place / 32 ≡ number) cells
+each_looked : (pages : List Paged) (number : ℕ) (cells : List Cell) → Rise 0 pages → EachPage IsPage pages
+    → Each (λ cell. cell.place / 32 ≡ number) cells
     → Each (λ cell. cell_at (flat pages) cell.place cell.size ≡ cell_at (cells_at pages number) cell.place cell.size) cells
 each_looked pages number cells rise each inside =
     each_then (λ cell. cell.place / 32 ≡ number) (λ cell. cell_at (flat pages) cell.place cell.size ≡ cell_at (cells_at pages number) cell.place cell.size) cells
     (λ cell here. looked 0 pages cell.place cell.size number rise each here) inside
 
-pub within_looked : (pages : List Paged) (number : ℕ) (cells : List Cell) → Rise 0 pages → EachPage IsPage pages → Each (λ cell. cell.place / 32 ≡ number) cells
+pub within_looked : (pages : List Paged) (number : ℕ) (cells : List Cell) → Rise 0 pages → EachPage IsPage pages
+    → Each (λ cell. cell.place / 32 ≡ number) cells
     → are_within (flat pages) cells ≡ are_within (cells_at pages number) cells
 within_looked pages number cells rise each inside = within_same (flat pages) (cells_at pages number) cells (each_looked pages number cells rise each inside)
 
-pub join_looked : (pages : List Paged) (number : ℕ) (cells : List Cell) → Rise 0 pages → EachPage IsPage pages → Each (λ cell. cell.place / 32 ≡ number) cells
+pub join_looked : (pages : List Paged) (number : ℕ) (cells : List Cell) → Rise 0 pages → EachPage IsPage pages
+    → Each (λ cell. cell.place / 32 ≡ number) cells
     → join_cells cells (cells_at pages number) ≡ kept (with_both word_join (flat pages)) cells
 unfolding join_cells
 join_looked pages number cells rise each inside =
@@ -192,7 +199,8 @@ widened_by marks cell found =
     if cell.size == 1 then both_of (λ h n. byte_widened h n marks) cell found else both_of (λ h n. word_widen h n marks) cell found
 
 pub widen_looked : (pages : List Paged) (number : ℕ) (cells : List Cell) (marks : List ℕ) → Rise 0 pages → EachPage IsPage pages
-    → Each (λ cell. cell.place / 32 ≡ number) cells → widen_cells cells (cells_at pages number) marks ≡ kept (cell_widened marks (flat pages)) cells
+    → Each (λ cell. cell.place / 32 ≡ number) cells
+    → widen_cells cells (cells_at pages number) marks ≡ kept (cell_widened marks (flat pages)) cells
 unfolding widen_cells
 widen_looked pages number cells marks rise each inside =
     kept_same (cell_widened marks (cells_at pages number)) (cell_widened marks (flat pages)) cells

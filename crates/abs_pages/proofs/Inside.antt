@@ -19,10 +19,12 @@ pub record AreSeen (pages : List Paged) (number : ℕ) (cells : List Cell) : Typ
   pub own : AreCells low high first cells
   pub is : cells ≡ cells_at pages number
 
-begun_seen : (pages : List Paged) (number : ℕ) (cells : List Cell) (at : ℕ) → AreSeen pages number cells → at / 32 ≡ number → begun_at (flat pages) at ≡ begun_at cells at
+begun_seen : (pages : List Paged) (number : ℕ) (cells : List Cell) (at : ℕ) → AreSeen pages number cells
+    → at / 32 ≡ number → begun_at (flat pages) at ≡ begun_at cells at
 begun_seen pages number cells at seen e = begun_looked 0 pages at number seen.read.rise seen.read.each e ∙ ap (λ found. begun_at found at) (sym seen.is)
 
-byte_seen : (pages : List Paged) (number : ℕ) (cells : List Cell) (at : ℕ) → AreSeen pages number cells → at / 32 ≡ number → (at % 32 ≡ 0 → ⊥)
+byte_seen : (pages : List Paged) (number : ℕ) (cells : List Cell) (at : ℕ) → AreSeen pages number cells
+    → at / 32 ≡ number → (at % 32 ≡ 0 → ⊥)
     → byte_at (flat pages) at ≡ byte_at cells at
 byte_seen pages number cells at seen e behind =
     sym (byte_begun seen.read.lo seen.read.hi seen.read.lo (flat pages) at seen.read.are)
@@ -36,7 +38,8 @@ of_byte byte = record { set = word_of_byte byte; entry = None }
 abbrev pub of_bytes : (low high : Option Form) → Word
 of_bytes low high = record { set = word_of_bytes low high; entry = None }
 
-together_seen : (pages : List Paged) (number : ℕ) (cells : List Cell) (at size : ℕ) → AreSeen pages number cells → at < 65536 → at / 32 ≡ number → (at % 32 ≡ 0 → ⊥)
+together_seen : (pages : List Paged) (number : ℕ) (cells : List Cell) (at size : ℕ) → AreSeen pages number cells
+    → at < 65536 → at / 32 ≡ number → (at % 32 ≡ 0 → ⊥)
     → (size ≡ 1) ⊎ ((size ≡ 2) × (at % 32 ≡ 31 → ⊥)) → put_together (flat pages) at size ≡ put_together cells at size
 together_seen pages number cells at size seen below e behind (inl one) = rw one (ap of_byte (byte_seen pages number cells at seen e behind))
 together_seen pages number cells at size seen below e behind (inr two) =
@@ -45,7 +48,8 @@ together_seen pages number cells at size seen below e behind (inr two) =
     rw (two.0, next) (ap (λ low. of_bytes low (byte_at (flat pages) (at + 1))) (byte_seen pages number cells at seen e behind)
     ∙ ap (of_bytes (byte_at cells at)) high)
 
-pub read_seen : (pages : List Paged) (number : ℕ) (cells : List Cell) (at size : ℕ) → AreSeen pages number cells → at < 65536 → at / 32 ≡ number
+pub read_seen : (pages : List Paged) (number : ℕ) (cells : List Cell) (at size : ℕ) → AreSeen pages number cells
+    → at < 65536 → at / 32 ≡ number
     → (size ≡ 1) ⊎ (size ≡ 2) → is_inside at size ≡ true → read (flat pages) at size ≡ read cells at size
 unfolding read
 read_seen pages number cells at size seen below e sizes inside =

@@ -68,7 +68,8 @@ kept_none f (x ∷ xs) h = rw h.0 (kept_none f xs h.1)
 
 -- FINDING
 
-pub cell_at_right : (xs ys : List Cell) (place size : ℕ) → Each (λ x. (x.place == place) ≡ false) xs → cell_at (xs ++ ys) place size ≡ cell_at ys place size
+pub cell_at_right : (xs ys : List Cell) (place size : ℕ) → Each (λ x. (x.place == place) ≡ false) xs
+    → cell_at (xs ++ ys) place size ≡ cell_at ys place size
 cell_at_right [] ys place size h = refl
 cell_at_right (x ∷ xs) ys place size h = rw h.0 (cell_at_right xs ys place size h.1)
 
@@ -76,7 +77,8 @@ cell_at_none : (ys : List Cell) (place size : ℕ) → Each (λ y. (y.place == p
 cell_at_none [] place size h = refl
 cell_at_none (y ∷ ys) place size h = rw h.0 (cell_at_none ys place size h.1)
 
-pub cell_at_left : (xs ys : List Cell) (place size : ℕ) → Each (λ y. (y.place == place) ≡ false) ys → cell_at (xs ++ ys) place size ≡ cell_at xs place size
+pub cell_at_left : (xs ys : List Cell) (place size : ℕ) → Each (λ y. (y.place == place) ≡ false) ys
+    → cell_at (xs ++ ys) place size ≡ cell_at xs place size
 cell_at_left [] ys place size h = cell_at_none ys place size h
 cell_at_left (x ∷ xs) ys place size h = elim (cases_Bool ((x.place == place) && (x.size == size))) [
   | inl holds ↦ rw holds refl
@@ -106,7 +108,8 @@ pub next_before : (xs ys : List Cell) (from : ℕ) → Each (λ x. x.place < fro
 next_before [] ys from h = refl
 next_before (x ∷ xs) ys from h = rw (lt-ltb x.place from h.0) (next_before xs ys from h.1)
 
-pub next_found : (xs ys : List Cell) (from : ℕ) (found : Option (ℕ × ℕ × Word)) → found ≡ option_map shown (next xs from) → is_some found ≡ true
+pub next_found : (xs ys : List Cell) (from : ℕ) (found : Option (ℕ × ℕ × Word))
+    → found ≡ option_map shown (next xs from) → is_some found ≡ true
     → found ≡ option_map shown (next (xs ++ ys) from)
 next_found [] ys from found e some = absurd (let none : is_some found ≡ false = ap is_some e in cc)
 next_found (x ∷ xs) ys from found e some = elim (cases_Bool (ltb x.place from)) [
@@ -114,7 +117,8 @@ next_found (x ∷ xs) ys from found e some = elim (cases_Bool (ltb x.place from)
   | inr here ↦ rw here (rw here at e)
 ]
 
-pub next_not_found : (xs ys : List Cell) (from : ℕ) (found : Option (ℕ × ℕ × Word)) → found ≡ option_map shown (next xs from) → is_some found ≡ false
+pub next_not_found : (xs ys : List Cell) (from : ℕ) (found : Option (ℕ × ℕ × Word))
+    → found ≡ option_map shown (next xs from) → is_some found ≡ false
     → next (xs ++ ys) from ≡ next ys from
 next_not_found [] ys from found e none = refl
 next_not_found (x ∷ xs) ys from found e none = elim (cases_Bool (ltb x.place from)) [
@@ -148,7 +152,8 @@ within_append new (x ∷ xs) ys = elim (cases_Bool (is_found_within (cell_at new
   | inr fails ↦ rw fails refl
 ]
 
-pub within_same : (new other xs : List Cell) → Each (λ x. cell_at new x.place x.size ≡ cell_at other x.place x.size) xs → are_within new xs ≡ are_within other xs
+pub within_same : (new other xs : List Cell) → Each (λ x. cell_at new x.place x.size ≡ cell_at other x.place x.size) xs
+    → are_within new xs ≡ are_within other xs
 within_same new other [] h = refl
 within_same new other (x ∷ xs) h =
     ap (λ (found : Option Word). is_found_within found x.word && are_within new xs) h.0
@@ -158,7 +163,8 @@ pub within_none : (xs : List Cell) → xs ≢ [] → are_within [] xs ≡ false
 within_none [] h = absurd (h refl)
 within_none (x ∷ xs) h = refl
 
-pub within_each : (new xs : List Cell) → are_within new xs ≡ true → Each (λ x. is_found_within (cell_at new x.place x.size) x.word ≡ true) xs
+pub within_each : (new xs : List Cell) → are_within new xs ≡ true
+    → Each (λ x. is_found_within (cell_at new x.place x.size) x.word ≡ true) xs
 within_each new [] h = tt
 within_each new (x ∷ xs) h =
     let parts = and_parts (is_found_within (cell_at new x.place x.size) x.word) (are_within new xs) h in (parts.0, within_each new xs parts.1)

@@ -16,7 +16,8 @@ each_push : (P : Paged → Type 0) (pages : List Paged) (page : Paged) → EachP
 each_push P [] page h own = (own, tt)
 each_push P (p ∷ pages) page h own = (h.0, each_push P pages page h.1 own)
 
-rise_push : (from : ℕ) (pages : List Paged) (page : Paged) → Rise from pages → EachPage (λ p. p.number < page.number) pages → from ≤ page.number
+rise_push : (from : ℕ) (pages : List Paged) (page : Paged) → Rise from pages
+    → EachPage (λ p. p.number < page.number) pages → from ≤ page.number
     → Rise from (pages ++ page ∷ [])
 rise_push from [] page h below le = (le, tt)
 rise_push from (p ∷ pages) page h below le = (h.0, rise_push (p.number + 1) pages page h.1 below.1 (omega (arith, below.0)))
@@ -52,11 +53,13 @@ rest_kept : (f : Cell → Option Cell) (pages : List Paged) (i : ℕ) (page : Pa
 rest_kept f pages i page lt is =
     ap (kept f) (flat_here pages i page lt is) ∙ kept_append f page.map.cells (flat (drop (i + 1) pages))
 
-rest_rises : (from : ℕ) (pages : List Paged) (i : ℕ) (page : Paged) → i < length pages → page ≡ get_or pages i page → Rise from (drop i pages)
+rest_rises : (from : ℕ) (pages : List Paged) (i : ℕ) (page : Paged) → i < length pages → page ≡ get_or pages i page
+    → Rise from (drop i pages)
     → (from ≤ page.number) × Rise (page.number + 1) (drop (i + 1) pages)
 rest_rises from pages i page lt is rise = subst (Rise from) (drop_more pages i page lt ∙ ap (λ (p : Paged). p ∷ drop (i + 1) pages) (sym is)) rise
 
-pub pass_over : (f : Cell → Option Cell) (lo hi : ℕ) (pages : List Paged) (i : ℕ) (all : List Paged) (page : Paged) → i < length pages → page ≡ get_or pages i page
+pub pass_over : (f : Cell → Option Cell) (lo hi : ℕ) (pages : List Paged) (i : ℕ) (all : List Paged) (page : Paged)
+    → i < length pages → page ≡ get_or pages i page
     → kept f page.map.cells ≡ [] → Passed f lo hi pages i all → Passed f lo hi pages (i + 1) all
 pass_over f lo hi pages i all page lt is none passed =
     let rises = rest_rises passed.from pages i page lt is passed.left in
@@ -80,7 +83,8 @@ made_inside : (f : Cell → Option Cell) (number : ℕ) (cells : List Cell) → 
 made_inside f number cells keeps inside =
     each_kept (λ cell. cell.place / 32 ≡ number) (λ cell. cell.place / 32 ≡ number) f cells (λ cell here. some_inside number cell (f cell) here (keeps cell)) inside
 
-pub pass_on : (f : Cell → Option Cell) (lo hi : ℕ) (pages : List Paged) (i : ℕ) (all : List Paged) (page made : Paged) → i < length pages → page ≡ get_or pages i page
+pub pass_on : (f : Cell → Option Cell) (lo hi : ℕ) (pages : List Paged) (i : ℕ) (all : List Paged) (page made : Paged)
+    → i < length pages → page ≡ get_or pages i page
     → KeepsPlaces f → IsPage page → HasBounds lo hi page → MadeOf page (kept f page.map.cells) (Some made) → Passed f lo hi pages i all
     → Passed f lo hi pages (i + 1) (all ++ made ∷ [])
 pass_on f lo hi pages i all page made lt is keeps form bounds (made_is, some) passed =
@@ -110,13 +114,15 @@ pass_on f lo hi pages i all page made lt is keeps form bounds (made_is, some) pa
           ∙ (ap (λ rest. flat all ++ rest) (sym (rest_kept f pages i page lt is)) ∙ passed.value));
     }
 
-pub pass_ends : (f : Cell → Option Cell) (lo hi : ℕ) (pages : List Paged) (i : ℕ) (all : List Paged) → length pages ≤ i → Passed f lo hi pages i all → flat all ≡ kept f (flat pages)
+pub pass_ends : (f : Cell → Option Cell) (lo hi : ℕ) (pages : List Paged) (i : ℕ) (all : List Paged) → length pages ≤ i
+    → Passed f lo hi pages i all → flat all ≡ kept f (flat pages)
 pass_ends f lo hi pages i all le passed =
     sym (append-nil (flat all)) ∙ (ap (λ rest. flat all ++ kept f (flat rest)) (sym (drop_all i pages le)) ∙ passed.value)
 
 -- BEING WITHIN
 
-pub within_here : (new : List Cell) (pages : List Paged) (i : ℕ) (page : Paged) (found : Bool) → i < length pages → page ≡ get_or pages i page
+pub within_here : (new : List Cell) (pages : List Paged) (i : ℕ) (page : Paged) (found : Bool) → i < length pages
+    → page ≡ get_or pages i page
     → are_within new page.map.cells ≡ found → are_within new (flat (drop i pages)) ≡ (found && are_within new (flat (drop (i + 1) pages)))
 within_here new pages i page found lt is e =
     ap (are_within new) (flat_here pages i page lt is)

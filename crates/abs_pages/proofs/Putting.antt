@@ -61,7 +61,8 @@ in_put page (p ∷ pages) none = elim (cases_Bool (p.number == page.number)) [
 
 -- WHAT PAGES KEEP
 
-with_rise : (from : ℕ) (page : Paged) (pages : List Paged) → from ≤ page.number → Rise (page.number + 1) pages → Rise from (with_page page pages)
+with_rise : (from : ℕ) (page : Paged) (pages : List Paged) → from ≤ page.number → Rise (page.number + 1) pages
+    → Rise from (with_page page pages)
 with_rise from page pages le h = elim (cases_Bool (is_empty page.map.cells)) [
   | inl none ↦ rw none (rise_lower (page.number + 1) from pages (omega (arith, le)) h)
   | inr some ↦ rw some (le, h)
@@ -81,10 +82,12 @@ put_rise from page (p ∷ pages) h le = elim (cases_lt p.number page.number) [
   ]
 ]
 
-with_each : (P : Paged → Type 0) (page : Paged) (pages : List Paged) → (is_empty page.map.cells ≡ false → P page) → EachPage P pages → EachPage P (with_page page pages)
+with_each : (P : Paged → Type 0) (page : Paged) (pages : List Paged) → (is_empty page.map.cells ≡ false → P page)
+    → EachPage P pages → EachPage P (with_page page pages)
 with_each P page pages own h = elim (cases_Bool (is_empty page.map.cells)) [ inl none ↦ rw none h | inr some ↦ rw some (own some, h) ]
 
-pub put_each : (P : Paged → Type 0) (page : Paged) (pages : List Paged) → (is_empty page.map.cells ≡ false → P page) → EachPage P pages → EachPage P (page_put page pages)
+pub put_each : (P : Paged → Type 0) (page : Paged) (pages : List Paged) → (is_empty page.map.cells ≡ false → P page)
+    → EachPage P pages → EachPage P (page_put page pages)
 put_each P page [] own h = with_each P page [] own tt
 put_each P page (p ∷ pages) own h = elim (cases_lt p.number page.number) [
   | inl below ↦ rw (lt-ltb p.number page.number below) (h.0, put_each P page pages own h.1)
@@ -148,7 +151,8 @@ all_stay_behind from number cell pages rise each lt =
     (λ one le. stays_elsewhere number cell one (λ same. omega (arith, le, lt, same))) (flat_behind from pages rise each))
 
 -- the page itself, with those behind it
-put_here : (lo hi : ℕ) (cell : Cell) (number : ℕ) (cells : List Cell) (pages : List Paged) → IsOwn lo hi number cell → EachPage IsPage pages → Rise (number + 1) pages
+put_here : (lo hi : ℕ) (cell : Cell) (number : ℕ) (cells : List Cell) (pages : List Paged) → IsOwn lo hi number cell
+    → EachPage IsPage pages → Rise (number + 1) pages
     → Each (λ one. one.place / 32 ≡ number) cells
     → with_cell lo hi cell (filter (stays number cell) (cells ++ flat pages)) ≡ with_cell lo hi cell (filter (unmet cell) cells) ++ flat pages
 put_here lo hi cell number cells pages own each rise inside =
@@ -174,7 +178,8 @@ put_on lo hi cell number p pages own is below =
     ∙ with_behind lo hi number cell p.map.cells (filter (stays number cell) (flat pages)) own
     (each_then (λ one. one.place / 32 ≡ p.number) (λ one. one.place / 32 < number) p.map.cells (λ one here. omega (arith, here, below)) is.inside)
 
-pub put_flat : (lo hi from : ℕ) (cell : Cell) (page : Paged) (pages : List Paged) → Rise from pages → EachPage IsPage pages → IsOwn lo hi page.number cell
+pub put_flat : (lo hi from : ℕ) (cell : Cell) (page : Paged) (pages : List Paged) → Rise from pages
+    → EachPage IsPage pages → IsOwn lo hi page.number cell
     → page.map.cells ≡ with_cell lo hi cell (filter (unmet cell) (cells_at pages page.number))
     → flat (page_put page pages) ≡ with_cell lo hi cell (filter (stays page.number cell) (flat pages))
 put_flat lo hi from cell page [] rise each own is = flat_with page [] ∙ (append-nil page.map.cells ∙ is)
@@ -208,7 +213,8 @@ put_flat lo hi from cell page (p ∷ pages) rise each own is = elim (cases_Bool 
 
 -- THE PAGE THAT IS PUT
 
-each_with_own : (P : Cell → Type 0) (lo hi : ℕ) (cell : Cell) (cells : List Cell) → (is_left_out lo hi cell ≡ false → P cell) → Each P cells → Each P (with_cell lo hi cell cells)
+each_with_own : (P : Cell → Type 0) (lo hi : ℕ) (cell : Cell) (cells : List Cell)
+    → (is_left_out lo hi cell ≡ false → P cell) → Each P cells → Each P (with_cell lo hi cell cells)
 each_with_own P lo hi cell cells own h = elim (cases_Bool (is_left_out lo hi cell)) [
   | inl out ↦ rw out h
   | inr put ↦ rw put (each_insert P cell cells (own put) h)
@@ -218,7 +224,8 @@ not_empty : (cells : List Cell) → is_empty cells ≡ false → cells ≢ []
 not_empty [] h e = absurd cc
 not_empty (cell ∷ cells) h e = absurd cc
 
-pub is_page : (lo hi : ℕ) (cell : Cell) (page : Paged) (held : List Cell) → IsOwn lo hi page.number cell → Each (λ one. one.place / 32 ≡ page.number) held
+pub is_page : (lo hi : ℕ) (cell : Cell) (page : Paged) (held : List Cell) → IsOwn lo hi page.number cell
+    → Each (λ one. one.place / 32 ≡ page.number) held
     → page.map.cells ≡ with_cell lo hi cell (filter (unmet cell) held) → is_empty page.map.cells ≡ false → IsPage page
 is_page lo hi cell page held own inside is some = record {
   some = not_empty page.map.cells some;
@@ -242,7 +249,8 @@ pub record Put (lo hi number : ℕ) (cell : Cell) (old new : List Paged) : Type 
   pub pages : ArePages lo hi new
   pub value : flat new ≡ with_cell lo hi cell (filter (stays number cell) (flat old))
 
-put_pages : (lo hi : ℕ) (cell : Cell) (page : Paged) (pages : List Paged) → ArePages lo hi pages → IsOwn lo hi page.number cell → HasBounds lo hi page
+put_pages : (lo hi : ℕ) (cell : Cell) (page : Paged) (pages : List Paged) → ArePages lo hi pages
+    → IsOwn lo hi page.number cell → HasBounds lo hi page
     → page.map.cells ≡ with_cell lo hi cell (filter (unmet cell) (cells_at pages page.number))
     → Put lo hi page.number cell pages (page_put page pages)
 put_pages lo hi cell page pages are own bounds is = record {

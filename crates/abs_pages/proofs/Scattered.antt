@@ -32,7 +32,8 @@ front place number lt is = omega (arith, lt, is)
 not_in : SetLaws → (at : Form) (number v : ℕ) → IsFar at number → above 65536 (before_page number) v < 34 → is_in 65536 at v ≡ false
 not_in laws at number v far near = absent laws at v (λ has. let least = far v has in absurd (omega (arith, least, near)))
 
-stays_behind : SetLaws → (at : Form) (size number : ℕ) (word : Word) (cell : Cell) → IsFar at number → cell.place < 65536 → cell.place / 32 ≡ number
+stays_behind : SetLaws → (at : Form) (size number : ℕ) (word : Word) (cell : Cell) → IsFar at number
+    → cell.place < 65536 → cell.place / 32 ≡ number
     → cell_behind at size word cell ≡ Some cell
 stays_behind laws at size number word cell far lt is =
     let own = not_in laws at number cell.place far (here cell.place number lt is) in

@@ -49,7 +49,8 @@ byte_stays held new marks h =
     let parts = and_parts (is_within 65536 new.set held.set) (is_entry_within new.entry held.entry) h in
     rw (parts.0, entry_common held.entry new.entry parts.1) refl
 
-both_stay : (f : Word → Word → Word) (lo hi : ℕ) (cell : Cell) (found : Option Word) → ((held new : Word) → word_within new held ≡ true → f held new ≡ held)
+both_stay : (f : Word → Word → Word) (lo hi : ℕ) (cell : Cell) (found : Option Word)
+    → ((held new : Word) → word_within new held ≡ true → f held new ≡ held)
     → IsCell lo hi cell → is_found_within found cell.word ≡ true → both_of f cell found ≡ Some cell
 both_stay f lo hi cell None same is within = absurd cc
 both_stay f lo hi cell (Some new) same is within = rw (same cell.word new within, is.says) refl
@@ -61,7 +62,8 @@ each_of_both : (lo hi from : ℕ) (held new : List Cell) → AreCells lo hi from
 each_of_both lo hi from held new are within =
     each_both (IsCell lo hi) (λ cell. is_found_within (cell_at new cell.place cell.size) cell.word ≡ true) held (each_cell lo hi from held are) (within_each new held within)
 
-pub join_shared : (lo hi from : ℕ) (held new : List Cell) → AreCells lo hi from held → are_within new held ≡ true → join_cells held new ≡ held
+pub join_shared : (lo hi from : ℕ) (held new : List Cell) → AreCells lo hi from held → are_within new held ≡ true
+    → join_cells held new ≡ held
 unfolding join_cells
 join_shared lo hi from held new are within =
     kept_all (with_both word_join new) held
@@ -74,7 +76,8 @@ cell_stays lo hi marks new cell h = elim (cases_Bool (cell.size == 1)) [
   | inr two ↦ rw two (both_stay (λ held word. word_widen held word marks) lo hi cell (cell_at new cell.place cell.size) (λ held word within. word_widened held word marks within) h.0 h.1)
 ]
 
-pub widen_shared : (lo hi from : ℕ) (held new : List Cell) (marks : List ℕ) → AreCells lo hi from held → are_within new held ≡ true → widen_cells held new marks ≡ held
+pub widen_shared : (lo hi from : ℕ) (held new : List Cell) (marks : List ℕ) → AreCells lo hi from held
+    → are_within new held ≡ true → widen_cells held new marks ≡ held
 unfolding widen_cells
 widen_shared lo hi from held new marks are within =
     kept_all (cell_widened marks new) held

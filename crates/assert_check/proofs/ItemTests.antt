@@ -78,7 +78,8 @@ none_accesses false space lo hi item (inl i) = rw i.2 refl
 none_accesses false space lo hi item (inr (inl e)) = rw e.2 refl
 none_accesses false space lo hi item (inr (inr s)) = rw s.2 (never _ (StackAt s.0) (numbers_in s.1) (λ v. refl))
 
-pub none_stands : (from to lo hi : ℕ) (item : Item) → IsInstr item ⊎ (IsEdge item ⊎ IsAccess item) → false ≡ breaks_item (Stack from to lo hi) item
+pub none_stands : (from to lo hi : ℕ) (item : Item) → IsInstr item ⊎ (IsEdge item ⊎ IsAccess item)
+    → false ≡ breaks_item (Stack from to lo hi) item
 none_stands from to lo hi item (inl i) = rw i.2 refl
 none_stands from to lo hi item (inr (inl e)) = rw e.2 refl
 none_stands from to lo hi item (inr (inr a)) = rw a.5 (never _ (Access a.0 a.1 a.2 a.3) (numbers_in a.4) (λ v. refl))

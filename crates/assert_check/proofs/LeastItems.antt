@@ -25,7 +25,8 @@ use Rattle.plain_lemmas.specs.AnyOf.{none_passes}
 use Rattle.plain_lemmas.specs.Members.{in_cons, in_filter, in_first, in_flat_map, in_map, in_none}
 
 -- behind the whole list nothing is left to tell
-pub all_told : (line_of : Item → List ℕ) (list : List (ℕ × Assertion)) (items : List Item) (told all : List Broken) (n : ℕ) → length list ≤ n
+pub all_told : (line_of : Item → List ℕ) (list : List (ℕ × Assertion)) (items : List Item) (told all : List Broken) (n : ℕ)
+    → length list ≤ n
     → told ++ broken_of line_of (drop n list) items ≡ all → told ≡ all
 all_told line_of list items told all n past e =
     sym (append-nil told) ∙ ap (λ left. told ++ broken_of line_of left items) (sym (drop_of_length-le list past)) ∙ e

@@ -81,7 +81,8 @@ onto_front list number assertion (Ok more) = ap Ok (sym (append_assoc list ((num
 onto_front list number assertion (Err line) = refl
 
 pub one_more : (spaces : List Space) (list new : List (ℕ × Assertion)) (count : ℕ) (line : List ℕ) (assertion : Assertion)
-    → (length line == 0) ≡ false → Some assertion ≡ assertion_of spaces line → new ≡ list ++ (count + 1, assertion) ∷ [] → (lines : List (List ℕ))
+    → (length line == 0) ≡ false → Some assertion ≡ assertion_of spaces line → new ≡ list ++ (count + 1, assertion) ∷ []
+    → (lines : List (List ℕ))
     → with_front list (assertions_behind spaces count (line ∷ lines)) ≡ with_front new (assertions_behind spaces (count + 1) lines)
 one_more spaces list new count [] assertion some is more lines = absurd (cc)
 one_more spaces list new count (b ∷ bytes) assertion some is more lines = rw (more, add-one)
@@ -90,6 +91,7 @@ one_more spaces list new count (b ∷ bytes) assertion some is more lines = rw (
 
 -- what an error tells of the next line is told of the text
 pub tells_text : (spaces : List Space) (text line : List ℕ) (list : List (ℕ × Assertion)) (count : ℕ) (lines : List (List ℕ)) (error : AssertError)
-    → with_front list (assertions_behind spaces count (line ∷ lines)) ≡ assertions_of spaces text → TellsLine spaces count line error → Tells spaces text error
+    → with_front list (assertions_behind spaces count (line ∷ lines)) ≡ assertions_of spaces text
+    → TellsLine spaces count line error → Tells spaces text error
 tells_text spaces text line list count lines (Syntax refused) whole tells = sym whole ∙ ap (with_front list) (tells lines)
 tells_text spaces text line list count lines Memory whole tells = tt

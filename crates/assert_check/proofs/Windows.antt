@@ -90,7 +90,8 @@ reaches_none lo hi size v h = elim (cases_Bool (reaches lo hi size v)) [
 ]
 
 -- the window of the numbers outside a range
-pub outside_window : (lo hi from len v : ℕ) → lo < 65536 → hi < 65536 → v < 65536 → from ≡ (hi + 1) % 65536 → len ≡ min (65535 + lo - hi) 65536
+pub outside_window : (lo hi from len v : ℕ) → lo < 65536 → hi < 65536 → v < 65536 → from ≡ (hi + 1) % 65536
+    → len ≡ min (65535 + lo - hi) 65536
     → nat_lt (above 65536 from v) len ≡ not (is_between lo hi v)
 outside_window lo hi from len v low high word starts long = elim (cases_Bool (is_between lo hi v)) [
   | inl is ↦ let there = within lo hi v is in

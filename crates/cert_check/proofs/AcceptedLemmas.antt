@@ -22,7 +22,8 @@ module _ (one : (m n : Node) → (same_node m n ≡ true) ↔ (m ≡ n)) {A : Ty
   equivalence = record { refl = λ x. (one x x).1 refl; symm = flips_from one; congr = λ x y z h. ap (λ n. same_node n z) ((one x y).0 h) }
 
   -- the nodes of a formed table
-  pub nodes_of_table : (nodes : List (Node × A)) → IsDistinct same_node (keys_of nodes) → IsFormedTable a (table_in nodes) → AreNodes a nodes
+  pub nodes_of_table : (nodes : List (Node × A)) → IsDistinct same_node (keys_of nodes)
+      → IsFormedTable a (table_in nodes) → AreNodes a nodes
   nodes_of_table nodes distinct formed = record {
     distinct = distinct;
     formed = All-from_recursion (λ row. a.HasForm row.0 row.1) nodes (all_weaker (Contains nodes) (λ row. a.HasForm row.0 row.1)

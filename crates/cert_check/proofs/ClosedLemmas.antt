@@ -35,7 +35,8 @@ all_mapped : {X Y : Type 0} (P : Y → Type 0) (f : X → Y) (xs : List X) → A
 all_mapped P f [] a = tt
 all_mapped P f (x ∷ xs) a = (a.0, all_mapped P f xs a.1)
 
-all_flat : {X Y : Type 0} (P : Y → Type 0) (f : X → List Y) (xs : List X) → AllByRecursion (λ x. AllByRecursion P (f x)) xs → AllByRecursion P (flat_map f xs)
+all_flat : {X Y : Type 0} (P : Y → Type 0) (f : X → List Y) (xs : List X)
+    → AllByRecursion (λ x. AllByRecursion P (f x)) xs → AllByRecursion P (flat_map f xs)
 all_flat P f [] a = tt
 all_flat P f (x ∷ xs) a = all_append P (f x) (flat_map f xs) a.0 (all_flat P f xs a.1)
 
@@ -75,7 +76,8 @@ held_from : {A : Type 0} (outside : A → A → Option Outside) (line : ℕ) (no
 held_from outside line node state None e = absurd (none-some _ (sym e))
 held_from outside line node state (Some x) e = (x, refl, map_none (NotIn line node) (outside state x) e)
 
-started_from : {A : Type 0} (outside : A → A → Option Outside) (node : Node) (state : A) (held : Option A) → start_refusal outside node state held ≡ None
+started_from : {A : Type 0} (outside : A → A → Option Outside) (node : Node) (state : A) (held : Option A)
+    → start_refusal outside node state held ≡ None
     → (x : A) × (held ≡ Some x) × (outside state x ≡ None)
 started_from outside node state None e = absurd (none-some _ (sym e))
 started_from outside node state (Some x) e = (x, refl, map_none (NotIn 0 node) (outside state x) e)
@@ -125,7 +127,8 @@ exits_all P [] all = tt
 exits_all P ((At pc calls frame, state) ∷ rows) all = exits_all P rows all.1
 exits_all P ((Exit pc frame, state) ∷ rows) all = all
 
-exits_distinct : {A : Type 0} (rows : List (Node × A)) → IsDistinct same_node (keys_of rows) → IsDistinct same_node (keys_of (exits_in rows))
+exits_distinct : {A : Type 0} (rows : List (Node × A)) → IsDistinct same_node (keys_of rows)
+    → IsDistinct same_node (keys_of (exits_in rows))
 unfolding IsDistinct
 exits_distinct [] distinct = tt
 exits_distinct ((At pc calls frame, state) ∷ rows) distinct = exits_distinct rows distinct.1
@@ -231,7 +234,8 @@ module _ (one : (m n : Node) → (same_node m n ≡ true) ↔ (m ≡ n)) (units 
         )
     row_apart distinct (Exit pc frame, state) = tt
 
-keys_apart : {A : Type 0} (a : Analysis A) (inputs : List (Input A)) → AreApart inputs → IsDistinct same_unit (keys_of (map (worked a) inputs))
+keys_apart : {A : Type 0} (a : Analysis A) (inputs : List (Input A)) → AreApart inputs
+    → IsDistinct same_unit (keys_of (map (worked a) inputs))
 unfolding IsDistinct
 keys_apart a [] apart = tt
 keys_apart a (x ∷ xs) apart = (
@@ -344,7 +348,8 @@ module _ {A : Type 0} (a : Analysis A) (texts : StateTexts A) (rows : List (Node
   all_held : AllByRecursion IsHeld rows
   all_held = all_weaker (Contains rows) IsHeld held rows (recursion_from_All (Contains rows) rows (All-contains_itself rows))
 
-  returns_listed : (pc : ℕ) (calls : List ℕ) (frame : Frame) (state : A) → IsHeld (At pc calls frame, state) → (exit : Node × A) → IsHeld exit
+  returns_listed : (pc : ℕ) (calls : List ℕ) (frame : Frame) (state : A) → IsHeld (At pc calls frame, state)
+      → (exit : Node × A) → IsHeld exit
       → AllByRecursion IsListed (return_from (At pc calls frame) state (a.work (One (At pc calls frame)) state None).waits exit)
   returns_listed pc calls frame state is (At pc' calls' frame', left) is_left = tt
   returns_listed pc calls frame state is (Exit from left, exit) is_left =
@@ -390,7 +395,8 @@ module _ {A : Type 0} (a : Analysis A) (texts : StateTexts A) (rows : List (Node
   held_passes line node state held form form' found within =
       ap (held_refusal texts.outside line node state) found ∙ ap (option_map (NotIn line node)) ((known.are.included node state held form form').1 within)
 
-  start_passes : IsClosedTable a (table_in rows) → start_refusal texts.outside a.first_node a.first_state (table_in rows a.first_node) ≡ None
+  start_passes : IsClosedTable a (table_in rows)
+      → start_refusal texts.outside a.first_node a.first_state (table_in rows a.first_node) ≡ None
   start_passes is_closed =
       let start = is_closed.started in
       ap (start_refusal texts.outside a.first_node a.first_state) start.1
@@ -398,12 +404,14 @@ module _ {A : Type 0} (a : Analysis A) (texts : StateTexts A) (rows : List (Node
       (formed a.first_node start.0 start.1)).1 start.2)
 
   -- a work without opens whose posts are held
-  work_passes : (line : ℕ) (work : Work A) → work.opens ≡ [] → AllByRecursion (λ p. post_refusal texts.outside rows line p ≡ None) work.posts
+  work_passes : (line : ℕ) (work : Work A) → work.opens ≡ []
+      → AllByRecursion (λ p. post_refusal texts.outside rows line p ≡ None) work.posts
       → work_refusal texts.outside rows line work ≡ None
   work_passes line work none posts =
       ap₂ or_else (ap (open_refusal line) none) (all_none (post_refusal texts.outside rows line) work.posts posts)
 
-  unit_passes : IsClosedTable a (table_in rows) → (line : ℕ) (input : Input A) → IsListed input → unit_refusal a texts.outside rows line input ≡ None
+  unit_passes : IsClosedTable a (table_in rows) → (line : ℕ) (input : Input A) → IsListed input
+      → unit_refusal a texts.outside rows line input ≡ None
   unit_passes is_closed line input it =
       let work = a.work input.unit it.at it.exit in
       let members = recursion_from_All (Contains work.posts) work.posts (All-contains_itself work.posts) in

@@ -38,7 +38,8 @@ due_returns {A} node state waits ((Exit pc frame, left) ∷ rows) = elim (cases_
 -- THE INDEX
 
 -- one more row in front
-pub firsts_added : {A : Type 0} (eq : Frame → Frame → Bool) → ((a b : Frame) → eq a b ≡ same_frame a b) → (old new : List (Frame × ℕ)) (end place : ℕ)
+pub firsts_added : {A : Type 0} (eq : Frame → Frame → Bool) → ((a b : Frame) → eq a b ≡ same_frame a b)
+    → (old new : List (Frame × ℕ)) (end place : ℕ)
     (rows : List (Node × A)) (row : Node × A) → place < length rows → row ≡ get_or rows place row
     → ((frame : Frame) → lookup (eq frame) new ≡ cond (eq (frame_of row.0) frame) (Some place) (lookup (eq frame) old))
     → AreFirsts eq old end (place + 1) (drop (place + 1) rows) → AreFirsts eq new end place (drop place rows)
@@ -56,9 +57,11 @@ firsts_added {A} eq same old new end place rows row h is writes firsts frame =
         ap (λ o. unwrap_or o end) (cond-false _ _ _ (same (frame_of row.0) frame ∙ s)) ∙ firsts frame
         ∙ ap (λ p. first_at frame p (drop (place + 1) rows)) next ∙ sym (cond-false _ _ _ s)
 
-pub nexts_added : {A : Type 0} (rows : List (Node × A)) (nexts : List ℕ) (place next : ℕ) (row : Node × A) → place < length rows → length nexts ≡ length rows
+pub nexts_added : {A : Type 0} (rows : List (Node × A)) (nexts : List ℕ) (place next : ℕ) (row : Node × A)
+    → place < length rows → length nexts ≡ length rows
     → row ≡ get_or rows place row → next ≡ first_at (frame_of row.0) (place + 1) (drop (place + 1) rows)
-    → drop (place + 1) nexts ≡ nexts_of (place + 1) (drop (place + 1) rows) → drop place (set nexts place next) ≡ nexts_of place (drop place rows)
+    → drop (place + 1) nexts ≡ nexts_of (place + 1) (drop (place + 1) rows)
+    → drop place (set nexts place next) ≡ nexts_of place (drop place rows)
 nexts_added {A} rows nexts place next row h same_length is first so_far =
     let one : place + 1 ≡ suc place = omega arith in
     let behind = drop (place + 1) rows in
@@ -128,7 +131,8 @@ module _ {A : Type 0} where
   ]
 
   -- past a row that isn't due the cursors stand as before
-  still_standing : (place : ℕ) (row : Node × A) (rows : List (Node × A)) (cursors : List Cursor) → AllByRecursion (StandsAt place (row ∷ rows)) cursors
+  still_standing : (place : ℕ) (row : Node × A) (rows : List (Node × A)) (cursors : List Cursor)
+      → AllByRecursion (StandsAt place (row ∷ rows)) cursors
       → is_due (frames_of cursors) row ≡ false → AllByRecursion (StandsAt (suc place) rows) cursors
   still_standing place row rows [] all due = tt
   still_standing place row rows (cursor ∷ cursors) all due = elim (cases_Bool (same_frame (frame_of row.0) cursor.frame)) [
@@ -216,7 +220,8 @@ module _ {A : Type 0} where
 
   -- A STEP
 
-  moved_stand : ((a b : Frame) → (same_frame a b ≡ true) ↔ (a ≡ b)) → (place next : ℕ) (row : Node × A) (rows : List (Node × A)) (cursors : List Cursor)
+  moved_stand : ((a b : Frame) → (same_frame a b ≡ true) ↔ (a ≡ b))
+      → (place next : ℕ) (row : Node × A) (rows : List (Node × A)) (cursors : List Cursor)
       → next ≡ first_at (frame_of row.0) (suc place) rows → AllByRecursion (StandsAt place (row ∷ rows)) cursors
       → AllByRecursion (StandsAt (suc place) rows) (map (moved (frame_of row.0) next) cursors)
   moved_stand one place next row rows [] is all = tt
@@ -243,7 +248,8 @@ moved_frames frame next [] = refl
 moved_frames frame next (cursor ∷ cursors) = ap₂ (λ (f : Frame) (fs : List Frame). f ∷ fs) (moved_frame frame next cursor) (moved_frames frame next cursors)
 
 -- a row is taken
-taken : {A : Type 0} → ((a b : Frame) → (same_frame a b ≡ true) ↔ (a ≡ b)) → (rows : List (Node × A)) (nexts : List ℕ) (cursors after : List Cursor)
+taken : {A : Type 0} → ((a b : Frame) → (same_frame a b ≡ true) ↔ (a ≡ b))
+    → (rows : List (Node × A)) (nexts : List ℕ) (cursors after : List Cursor)
     (place next : ℕ) (row : Node × A) → AreNext rows cursors place → nexts ≡ nexts_of 0 rows → place < length rows → row ≡ get_or rows place row
     → next ≡ get_or nexts place 0 → after ≡ map (moved (frame_of row.0) next) cursors
     → AreNext rows after (least_place (length rows) after)
@@ -267,9 +273,11 @@ taken {A} one rows nexts cursors after place next row are are_nexts h is next_is
     )
 
 -- and written to the cursors
-pub row_taken : {A : Type 0} → ((a b : Frame) → (same_frame a b ≡ true) ↔ (a ≡ b)) → (rows : List (Node × A)) (nexts : List ℕ) (cursors : Vec Cursor Global)
+pub row_taken : {A : Type 0} → ((a b : Frame) → (same_frame a b ≡ true) ↔ (a ≡ b))
+    → (rows : List (Node × A)) (nexts : List ℕ) (cursors : Vec Cursor Global)
     (written after : List Cursor) (place least : ℕ) (row : Node × A) → AreNext rows cursors.items place → nexts ≡ nexts_of 0 rows → place < length rows
-    → row ≡ get_or rows place row → length cursors.items ≡ cursors.len → written ≡ map (moved (frame_of row.0) (get_or nexts place 0)) cursors.items
+    → row ≡ get_or rows place row → length cursors.items ≡ cursors.len
+    → written ≡ map (moved (frame_of row.0) (get_or nexts place 0)) cursors.items
     → after ≡ (with_items cursors written).items → least ≡ least_place (length rows) after
     → AreNext rows (with_items cursors written).items least
     × (due_rows (frames_of cursors.items) (drop place rows) ≡ row ∷ due_rows (frames_of (with_items cursors written).items) (drop least rows))

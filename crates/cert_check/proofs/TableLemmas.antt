@@ -20,7 +20,8 @@ module _ {X : Type 0} (eq : X → X → Bool) {same : X → X → Bool} (tells :
 
 module _ {A : Type 0} (eq : Node → Node → Bool) (same : (m n : Node) → eq m n ≡ same_node m n) where
   -- a node that has no place isn't in the table
-  pub not_placed : (rows : List (Node × A)) (from : ℕ) (node : Node) → lookup (eq node) (placed from rows) ≡ None → table_in rows node ≡ None
+  pub not_placed : (rows : List (Node × A)) (from : ℕ) (node : Node) → lookup (eq node) (placed from rows) ≡ None
+      → table_in rows node ≡ None
   not_placed [] from node none = refl
   not_placed (row ∷ rows) from node none = elim (cases_Bool (same_node node row.0)) [
     | inl is ↦ absurd (none-some from (sym none ∙ cond-true _ _ _ (same node row.0 ∙ is)))
@@ -41,7 +42,8 @@ module _ {A : Type 0} (eq : Node → Node → Bool) (same : (m n : Node) → eq 
   ]
 
 -- a node that stands behind others isn't among them
-pub fresh : (eq : Node → Node → Bool) → ((m n : Node) → eq m n ≡ same_node m n) → (entries : List (Node × ℕ)) (node : Node) (more : List Node)
+pub fresh : (eq : Node → Node → Bool) → ((m n : Node) → eq m n ≡ same_node m n)
+    → (entries : List (Node × ℕ)) (node : Node) (more : List Node)
     → ((m n : Node) → same_node m n ≡ same_node n m)
     → IsDistinct same_node (keys_of entries ++ node ∷ more) → lookup (eq node) entries ≡ None
 unfolding IsDistinct
@@ -50,7 +52,8 @@ fresh eq same (entry ∷ entries) node more flips distinct =
     cond-false _ _ _ (same node entry.0 ∙ flips node entry.0 ∙ all_behind (keys_of entries) node more entry.0 distinct.0)
     ∙ fresh eq same entries node more flips distinct.1
   where
-    all_behind : (xs : List Node) (y : Node) (ys : List Node) (x : Node) → AllByRecursion (λ z. same_node x z ≡ false) (xs ++ y ∷ ys) → same_node x y ≡ false
+    all_behind : (xs : List Node) (y : Node) (ys : List Node) (x : Node)
+        → AllByRecursion (λ z. same_node x z ≡ false) (xs ++ y ∷ ys) → same_node x y ≡ false
     all_behind [] y ys x all = all.0
     all_behind (z ∷ xs) y ys x all = all_behind xs y ys x all.1
 
@@ -70,13 +73,15 @@ placed_next rows i row h is =
     ∙ ap (λ n. (row.0, i) ∷ placed n (drop (i + 1) rows)) next
 
 -- one more place
-pub one_placed : {A : Type 0} (rows : List (Node × A)) (entries : List (Node × ℕ)) (i : ℕ) (row : Node × A) → i < length rows → row ≡ get_or rows i row
+pub one_placed : {A : Type 0} (rows : List (Node × A)) (entries : List (Node × ℕ)) (i : ℕ) (row : Node × A)
+    → i < length rows → row ≡ get_or rows i row
     → entries ++ placed i (drop i rows) ≡ placed 0 rows → (entries ++ (row.0, i) ∷ []) ++ placed (i + 1) (drop (i + 1) rows) ≡ placed 0 rows
 one_placed rows entries i row h is so_far =
     append_assoc entries ((row.0, i) ∷ []) (placed (i + 1) (drop (i + 1) rows)) ∙ ap (λ es. entries ++ es) (sym (placed_next rows i row h is)) ∙ so_far
 
 -- a row's node has no place before
-pub none_yet : {A : Type 0} (eq : Node → Node → Bool) → ((m n : Node) → eq m n ≡ same_node m n) → ((m n : Node) → same_node m n ≡ same_node n m)
+pub none_yet : {A : Type 0} (eq : Node → Node → Bool) → ((m n : Node) → eq m n ≡ same_node m n)
+    → ((m n : Node) → same_node m n ≡ same_node n m)
     → (rows : List (Node × A)) (entries : List (Node × ℕ)) (i : ℕ) (row : Node × A) → i < length rows → row ≡ get_or rows i row
     → entries ++ placed i (drop i rows) ≡ placed 0 rows → IsDistinct same_node (keys_of rows) → lookup (eq row.0) entries ≡ None
 none_yet eq same flips rows entries i row h is so_far distinct =

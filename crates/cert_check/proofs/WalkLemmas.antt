@@ -35,7 +35,8 @@ least_step first least next site sites i h item so_far is =
 pub units_added : {A : Type 0} (a : Analysis A) (exits : List (Node × A)) (node : Node) (state : A) (pc : ℕ) (calls : List ℕ) (frame : Frame)
     (work : Work A) (waits : List Frame) (before after all returns : List (WorkUnit × Work A)) → node ≡ At pc calls frame
     → work ≡ a.work (One node) state None
-    → waits ≡ work.waits → returns ≡ map (worked a) (flat_map (return_from node state waits) exits) → after ≡ before ++ (One node, work) ∷ []
+    → waits ≡ work.waits → returns ≡ map (worked a) (flat_map (return_from node state waits) exits)
+    → after ≡ before ++ (One node, work) ∷ []
     → all ≡ after ++ returns
     → all ≡ before ++ map (worked a) (units_of a exits (node, state))
 units_added {A} a exits node state pc calls frame work waits before after all returns is is_work are_waits are_returns one more =

@@ -163,7 +163,8 @@ exact = record {
   included = λ node new held form form'. is_within new held;
 }
   where
-    taken : (node : Node) (text : List ℕ) (state : ℕ) → texts.state_of node text ≡ Some state → HasForm node state × (texts.text_of state ≡ text)
+    taken : (node : Node) (text : List ℕ) (state : ℕ) → texts.state_of node text ≡ Some state
+        → HasForm node state × (texts.text_of state ≡ text)
     taken node text state e = elim (cases_Bool (is_mine node)) [
       | inl mine ↦ let is = (hex_number_is_exact 4).only text state (rw mine at e) in ((mine, is.0), is.1)
       | inr other ↦ absurd (none-some state (rw other at e))

@@ -19,7 +19,8 @@ module _ {A : Type 0} where
   abbrev pairs : List (Held A) → List (Node × A)
   pairs hs = map (λ h. (h.node, h.state)) hs
 
-  none_apart : (hs : List (Held A)) (node : Node) → held_at hs node ≡ None → AllByRecursion (λ other. same_node node other ≡ false) (keys_of (pairs hs))
+  none_apart : (hs : List (Held A)) (node : Node) → held_at hs node ≡ None
+      → AllByRecursion (λ other. same_node node other ≡ false) (keys_of (pairs hs))
   none_apart [] node none = tt
   none_apart (h ∷ hs) node none = elim (cases_Bool (same_node node h.node)) [
     | inl same ↦ absurd (none-some h (sym none ∙ cond-true _ _ _ same))

@@ -35,7 +35,8 @@ module _ {A : Type 0} (a : Analysis A) (texts : StateTexts A) (are : AreTexts a 
         (are.one_line row.0 row.1 form.1));
   }
 
-  pub certs_are_tables : (text : List ℕ) (rows : List (Node × A)) → (table_of a texts text ≡ Ok rows) ↔ (AreRows a texts rows × (text ≡ cert_of a texts rows))
+  pub certs_are_tables : (text : List ℕ) (rows : List (Node × A))
+      → (table_of a texts text ≡ Ok rows) ↔ (AreRows a texts rows × (text ≡ cert_of a texts rows))
   unfolding table_step
   certs_are_tables text rows = (
     λ e. read_is_listing (table_row a texts) (node_text texts) rows_are_lines text rows e,

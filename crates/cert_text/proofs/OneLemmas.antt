@@ -24,7 +24,8 @@ module _ {R : Type 0} (row : Spelling R) (key : R → List ℕ) where
   never_behind x rows ascend h = not_below_itself (key x) (above_all (key x) rows ascend x h)
 
   -- the first of the one list is the first of the other
-  first_same : (x y : R) (xs ys : List R) → Ascend row key (key x) xs → Ascend row key (key y) ys → Contains (y ∷ ys) x → Contains (x ∷ xs) y → x ≡ y
+  first_same : (x y : R) (xs ys : List R) → Ascend row key (key x) xs → Ascend row key (key y) ys → Contains (y ∷ ys) x
+      → Contains (x ∷ xs) y → x ≡ y
   first_same x y xs ys up also x_in y_in = elim (in_cons y ys x x_in) [
     | inl same ↦ sym same
     | inr later ↦ elim (in_cons x xs y y_in) [
@@ -44,7 +45,8 @@ module _ {R : Type 0} (row : Spelling R) (key : R → List ℕ) where
     | inr rest ↦ rest
   ]
 
-  same_rows : (above over : List ℕ) (xs ys : List R) → Ascend row key above xs → Ascend row key over ys → ((z : R) → Contains xs z → Contains ys z)
+  same_rows : (above over : List ℕ) (xs ys : List R) → Ascend row key above xs → Ascend row key over ys
+      → ((z : R) → Contains xs z → Contains ys z)
       → ((z : R) → Contains ys z → Contains xs z) → xs ≡ ys
   same_rows above over [] [] up also within around = refl
   same_rows above over [] (y ∷ ys) up also within around = absurd (in_none y (around y (in_first y ys)))
@@ -54,7 +56,8 @@ module _ {R : Type 0} (row : Spelling R) (key : R → List ℕ) where
       ap₂ (λ r rs. r ∷ rs) same
       (same_rows (key x) (key y) xs ys up.2 also.2 (rest_in x y xs ys up.2 same within) (rest_in y x ys xs also.2 (sym same) around))
 
-pub one_text : {A : Type 0} (a : Analysis A) (texts : StateTexts A) (nodes : List (Node × A)) (one other : List ℕ) → IsCert a texts nodes one
+pub one_text : {A : Type 0} (a : Analysis A) (texts : StateTexts A) (nodes : List (Node × A)) (one other : List ℕ)
+    → IsCert a texts nodes one
     → IsCert a texts nodes other → one ≡ other
 one_text a texts nodes one other is so =
     let same = same_rows (table_row a texts) (node_text texts) [] [] is.rows so.rows is.are_rows so.are_rows

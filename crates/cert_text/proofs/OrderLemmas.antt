@@ -50,7 +50,8 @@ module _ {A : Type 0} (a : Analysis A) (texts : StateTexts A) (one : (m n : Node
   all_behind x [] ascend = tt
   all_behind x (y ∷ rows) ascend = (differ x y ascend.1, all_above x (node_text texts y) rows ascend.2 ascend.1)
 
-  are_distinct : (above : List ℕ) (rows : List (Node × A)) → Ascend (table_row a texts) (node_text texts) above rows → IsDistinct same_node (keys_of rows)
+  are_distinct : (above : List ℕ) (rows : List (Node × A)) → Ascend (table_row a texts) (node_text texts) above rows
+      → IsDistinct same_node (keys_of rows)
   unfolding IsDistinct
   are_distinct above [] ascend = tt
   are_distinct above (x ∷ rows) ascend = (all_behind x rows ascend.2, are_distinct (node_text texts x) rows ascend.2)

@@ -43,7 +43,8 @@ module _ {R : Type 0} (row : Spelling R) (key : R → List ℕ) where
   ended last held = record { begun = true; ended = true; rows = held; last = last }
 
   -- one line: the end, or a row
-  step_end : (last : List ℕ) (held : List R) (line : List ℕ) → bytes_eq line last_line ≡ true → step row key (among last held) line ≡ Ok (ended last held)
+  step_end : (last : List ℕ) (held : List R) (line : List ℕ) → bytes_eq line last_line ≡ true
+      → step row key (among last held) line ≡ Ok (ended last held)
   step_end last held line is = rw is refl
 
   step_row : (last : List ℕ) (held : List R) (line : List ℕ) → bytes_eq line last_line ≡ false
@@ -112,7 +113,8 @@ module _ {R : Type 0} (row : Spelling R) (key : R → List ℕ) where
 
   -- WHOLE TEXTS
 
-  rows_one_line : AreLines row → (last : List ℕ) (rows : List R) → Ascend row key last rows → AllByRecursion IsOneLine (map row.text rows ++ last_line ∷ [])
+  rows_one_line : AreLines row → (last : List ℕ) (rows : List R) → Ascend row key last rows
+      → AllByRecursion IsOneLine (map row.text rows ++ last_line ∷ [])
   rows_one_line are last [] ascend = (refl, tt)
   rows_one_line are last (x ∷ rows) ascend = (are.one_line x ascend.0, rows_one_line are (key x) rows ascend.2)
 
@@ -139,7 +141,8 @@ module _ {R : Type 0} (row : Spelling R) (key : R → List ℕ) where
   ]
   finished rest number (Err bad) rows e = absurd (err-ok e)
 
-  lines_only : AreLines row → (lines : List (List ℕ)) (read : Read R) → reading (step row key) 0 at_first lines ≡ Ok read → read.ended ≡ true
+  lines_only : AreLines row → (lines : List (List ℕ)) (read : Read R)
+      → reading (step row key) 0 at_first lines ≡ Ok read → read.ended ≡ true
       → Ascend row key [] read.rows × (lines ≡ first_line ∷ (map row.text read.rows ++ last_line ∷ []))
   lines_only are [] read e end = absurd (false≢true (ap (λ (r : Read R). r.ended) (same_Ok e) ∙ end))
   lines_only are (line ∷ lines) read e end = elim (cases_Bool (bytes_eq line first_line)) [

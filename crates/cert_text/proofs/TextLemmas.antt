@@ -23,17 +23,20 @@ joined_feed lines line = joined-line lines line [] ∙ sym (joined-rest lines li
 pub joined_more : (lines : List (List ℕ)) (rest more : List ℕ) → joined lines (rest ++ more) ≡ joined lines rest ++ more
 joined_more lines rest more = sym (joined-rest lines rest more)
 
-lines_one : (lines : List (List ℕ)) (line : List ℕ) → AllByRecursion IsOneLine lines → IsOneLine line → AllByRecursion IsOneLine (lines ++ line ∷ [])
+lines_one : (lines : List (List ℕ)) (line : List ℕ) → AllByRecursion IsOneLine lines → IsOneLine line
+    → AllByRecursion IsOneLine (lines ++ line ∷ [])
 lines_one [] line are is = (is, tt)
 lines_one (first ∷ lines) line are is = (are.0, lines_one lines line are.1 is)
 
 -- a further byte of a piece
-pub piece_step : (text piece : List ℕ) (i : ℕ) → i < length piece → (text ++ take i piece) ++ get_or piece i 0 ∷ [] ≡ text ++ take (i + 1) piece
+pub piece_step : (text piece : List ℕ) (i : ℕ) → i < length piece
+    → (text ++ take i piece) ++ get_or piece i 0 ∷ [] ≡ text ++ take (i + 1) piece
 piece_step text piece i h =
     let next : i + 1 ≡ suc i = omega arith in
     rw next (append_assoc text (take i piece) (get_or piece i 0 ∷ []) ∙ ap (λ t. text ++ t) (sym (take-suc piece i 0 h)))
 
-pub count_lines : {A : Type 0} (line_of : A → List ℕ) (items : List A) (n size : ℕ) → n ≡ size → size ≡ length items → n ≡ length (map line_of items)
+pub count_lines : {A : Type 0} (line_of : A → List ℕ) (items : List A) (n size : ℕ) → n ≡ size → size ≡ length items
+    → n ≡ length (map line_of items)
 count_lines line_of items n size count is = count ∙ is ∙ sym (length-map items line_of)
 
 -- the line behind so many others has a number
@@ -52,7 +55,8 @@ module _ {A : Type 0} (a : Analysis A) (texts : StateTexts A) where
       ∙ ap (λ n. counted n Ok (table_step a texts read line)) none
 
   -- a byte of the line
-  pub read_byte : (lines : List (List ℕ)) (line : List ℕ) (read : Read (Node × A)) (b : ℕ) → HasRead a texts lines line read → (b == 10) ≡ false
+  pub read_byte : (lines : List (List ℕ)) (line : List ℕ) (read : Read (Node × A)) (b : ℕ)
+      → HasRead a texts lines line read → (b == 10) ≡ false
       → length (joined lines line) < 268435456 → HasRead a texts lines (line ++ b ∷ []) read
   read_byte lines line read b so_far other room = record {
     whole = so_far.whole;
@@ -72,15 +76,18 @@ module _ {A : Type 0} (a : Analysis A) (texts : StateTexts A) where
   }
 
   -- no line is at fault
-  pub none_refused : (lines : List (List ℕ)) (line : List ℕ) (read : Read (Node × A)) (number : ℕ) (fault : LineFault) → HasRead a texts lines line read
+  pub none_refused : (lines : List (List ℕ)) (line : List ℕ) (read : Read (Node × A)) (number : ℕ) (fault : LineFault)
+      → HasRead a texts lines line read
       → IsFaultyFront a texts (joined lines line) number fault → ⊥
   none_refused lines line read number fault so_far refused =
       let cut = ap (λ (c : List (List ℕ) × List ℕ). c.0) (lines_cut-joined lines line so_far.whole so_far.begun) in
       err-ok (sym refused ∙ ap (reading (table_step a texts) 0 at_first) cut ∙ so_far.reads)
 
   -- what the next line's error tells of the text with its line feed
-  pub tells_feed : (lines : List (List ℕ)) (line : List ℕ) (read : Read (Node × A)) (number : ℕ) (error : ReadError) → HasRead a texts lines line read
-      → number ≡ length lines + 1 → TellsLine (table_step a texts read line) number error → TellsFront a texts (joined lines line ++ 10 ∷ []) error
+  pub tells_feed : (lines : List (List ℕ)) (line : List ℕ) (read : Read (Node × A)) (number : ℕ) (error : ReadError)
+      → HasRead a texts lines line read
+      → number ≡ length lines + 1 → TellsLine (table_step a texts read line) number error
+      → TellsFront a texts (joined lines line ++ 10 ∷ []) error
   tells_feed lines line read number (Bad at fault) so_far count tells =
       let whole : whole_lines (joined lines line ++ 10 ∷ []) ≡ lines ++ line ∷ [] =
       ap whole_lines (sym (joined_feed lines line))
@@ -119,8 +126,10 @@ module _ {A : Type 0} (a : Analysis A) (texts : StateTexts A) where
   fresh_read = record { whole = tt; begun = refl; reads = refl; small = omega arith }
 
 module _ {R : Type 0} where
-  pub finish_complete : (rest : List ℕ) (number : ℕ) (read : Read R) → (read.ended && is_empty rest) ≡ true → finish rest number (Ok read) ≡ Ok read.rows
+  pub finish_complete : (rest : List ℕ) (number : ℕ) (read : Read R) → (read.ended && is_empty rest) ≡ true
+      → finish rest number (Ok read) ≡ Ok read.rows
   finish_complete rest number read complete = rw complete refl
 
-  pub finish_bad : (rest : List ℕ) (number : ℕ) (read : Read R) → (read.ended && is_empty rest) ≡ false → finish rest number (Ok read) ≡ Err (number, Syntax)
+  pub finish_bad : (rest : List ℕ) (number : ℕ) (read : Read R) → (read.ended && is_empty rest) ≡ false
+      → finish rest number (Ok read) ≡ Err (number, Syntax)
   finish_bad rest number read incomplete = rw incomplete refl

@@ -43,7 +43,8 @@ module _ {X Y : Type 0} (f : X → Y) where
   map_swaps xs (p ∷ moves) = map-swap (apply_swaps xs moves) p.0 p.1 ∙ ap (λ l. swap l p.0 p.1) (map_swaps xs moves)
 
 -- what another list with the same images does, this one does too
-pub permuted_back : {X Y Z : Type 0} (f : X → Z) (g : Y → Z) (xs ys : List X) (nodes : List Y) → map f xs ≡ map g nodes → IsPermutation xs ys
+pub permuted_back : {X Y Z : Type 0} (f : X → Z) (g : Y → Z) (xs ys : List X) (nodes : List Y) → map f xs ≡ map g nodes
+    → IsPermutation xs ys
     → (rows : List Y) × IsPermutation nodes rows × (map f ys ≡ map g rows)
 permuted_back f g xs ys nodes same p =
     let long : length xs ≡ length nodes = sym (length-map xs f) ∙ ap length same ∙ length-map nodes g in (
@@ -82,7 +83,8 @@ sorted_climb f [] sorted = tt
 sorted_climb f (x ∷ xs) sorted = climbs f x xs sorted
 
 -- of two texts that differ the one that doesn't stand above the other stands below it
-strictly_below : (o : Ordering) (rest : Ordering) → is_lt (ordering_then o rest) ≡ false → (o ≡ Equal → ⊥) → is_lt (ordering_reverse o) ≡ true
+strictly_below : (o : Ordering) (rest : Ordering) → is_lt (ordering_then o rest) ≡ false → (o ≡ Equal → ⊥)
+    → is_lt (ordering_reverse o) ≡ true
 strictly_below Less rest low other = absurd (true≢false low)
 strictly_below Equal rest low other = absurd (other refl)
 strictly_below Greater rest low other = refl
@@ -107,7 +109,8 @@ module _ {A : Type 0} (a : Analysis A) (texts : StateTexts A) (are : AreTexts a 
       let is = once (node_field texts.digits) (node_is_exact texts.digits) x.0 y.0 (are.nodes x.0 x.1 form) (are.nodes y.0 y.1 form') same in
       true≢false (sym ((one x.0 y.0).1 is) ∙ other)
 
-  chain : (x : Node × A) (rows : List (Node × A)) → Climb (written texts x) (map (written texts) rows) → IsDistinct same_node (keys_of (x ∷ rows))
+  chain : (x : Node × A) (rows : List (Node × A)) → Climb (written texts x) (map (written texts) rows)
+      → IsDistinct same_node (keys_of (x ∷ rows))
       → HasForms (x ∷ rows)
       → Ascend (table_row a texts) (node_text texts) (node_text texts x) rows
   unfolding table_row IsDistinct
@@ -134,7 +137,8 @@ module _ {A : Type 0} (a : Analysis A) (texts : StateTexts A) (are : AreTexts a 
 
 -- THE TEXT
 
-line_and_more : (key state more end : List ℕ) → (key ++ 32 ∷ state) ++ 10 ∷ (more ++ end) ≡ ((key ++ 32 ∷ (state ++ 10 ∷ [])) ++ more) ++ end
+line_and_more : (key state more end : List ℕ)
+    → (key ++ 32 ∷ state) ++ 10 ∷ (more ++ end) ≡ ((key ++ 32 ∷ (state ++ 10 ∷ [])) ++ more) ++ end
 line_and_more key state more end = simp append_assoc
 
 pub lines_joined : {A : Type 0} (a : Analysis A) (texts : StateTexts A) (rows : List (Node × A))
@@ -146,7 +150,8 @@ lines_joined a texts (x ∷ rows) =
     ∙ line_and_more (node_text texts x) (texts.text_of x.1) (flat_map line_of (map (written texts) rows)) (last_line ++ 10 ∷ [])
 
 -- the text as it is put together
-pub assembled : {X : Type 0} (f : X → Written) (ys pairs : List X) (empty head lines text : List ℕ) → empty ≡ [] → head ≡ empty ++ codes "CERT 1\n"
+pub assembled : {X : Type 0} (f : X → Written) (ys pairs : List X) (empty head lines text : List ℕ) → empty ≡ []
+    → head ≡ empty ++ codes "CERT 1\n"
     → lines ≡ head ++ flat_map line_of (map f pairs) → pairs ≡ ys → text ≡ lines ++ codes "END\n"
     → text ≡ (codes "CERT 1\n" ++ flat_map line_of (map f ys)) ++ codes "END\n"
 assembled f ys pairs empty head lines text none begun more same ended =
@@ -154,9 +159,12 @@ assembled f ys pairs empty head lines text none begun more same ended =
     ∙ ap₂ (λ (t : List ℕ) zs. t ++ flat_map line_of (map f zs)) (begun ∙ ap (λ (t : List ℕ). t ++ codes "CERT 1\n") none) same)
 
 -- the certificate of nodes, made of their sorted texts
-pub made : {A X : Type 0} (a : Analysis A) (texts : StateTexts A) → AreTexts a texts → ((m n : Node) → (same_node m n ≡ true) ↔ (m ≡ n)) → (f : X → Written)
-    → (xs ys : List X) (nodes : List (Node × A)) (text : List ℕ) → AreNodes a nodes → map f xs ≡ map (written texts) nodes → IsPermutation xs ys
-    → IsSorted (λ x y. written_cmp (f x) (f y)) ys → text ≡ (codes "CERT 1\n" ++ flat_map line_of (map f ys)) ++ codes "END\n" → IsCert a texts nodes text
+pub made : {A X : Type 0} (a : Analysis A) (texts : StateTexts A) → AreTexts a texts
+    → ((m n : Node) → (same_node m n ≡ true) ↔ (m ≡ n)) → (f : X → Written)
+    → (xs ys : List X) (nodes : List (Node × A)) (text : List ℕ) → AreNodes a nodes
+    → map f xs ≡ map (written texts) nodes → IsPermutation xs ys
+    → IsSorted (λ x y. written_cmp (f x) (f y)) ys
+    → text ≡ (codes "CERT 1\n" ++ flat_map line_of (map f ys)) ++ codes "END\n" → IsCert a texts nodes text
 made {A} a texts are one f xs ys nodes text nodes_are same moved sorted is =
     let back = permuted_back f (written texts) xs ys nodes same moved in
     let distinct = still_distinct a texts are one (keys_of nodes) (keys_of back.0) (IsPermutation-map

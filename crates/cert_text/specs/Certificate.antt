@@ -51,7 +51,8 @@ listing_of row rows = joined (first_line ∷ (map row.text rows ++ last_line ∷
 
 -- The rows of a text, or its first line at fault, counted from 1. Where the end is missing, a line has no line feed or
 -- bytes stand behind the last one, that is the line behind the whole ones.
-abbrev pub listed_by : {R : Type 0} → (step : Read R → List ℕ → Result (Read R) LineFault) → (text : List ℕ) → Result (List R) (ℕ × LineFault)
+abbrev pub listed_by : {R : Type 0} → (step : Read R → List ℕ → Result (Read R) LineFault) → (text : List ℕ)
+    → Result (List R) (ℕ × LineFault)
 listed_by step text = finish (rest_of text) (length (whole_lines text) + 1) (reading step 0 at_first (whole_lines text))
 
 module _ {R : Type 0} (row : Spelling R) (key : R → List ℕ) where
@@ -96,7 +97,8 @@ abbrev pub cert_of : {A : Type 0} → Analysis A → StateTexts A → List (Node
 cert_of a texts rows = listing_of (table_row a texts) rows
 
 -- one more line of a certificate
-unfoldable pub table_step : {A : Type 0} → Analysis A → StateTexts A → Read (Node × A) → (line : List ℕ) → Result (Read (Node × A)) LineFault
+unfoldable pub table_step : {A : Type 0} → Analysis A → StateTexts A → Read (Node × A) → (line : List ℕ)
+    → Result (Read (Node × A)) LineFault
 table_step a texts = step (table_row a texts) (node_text texts)
 
 -- the nodes with their states that a text denotes, or its first line at fault

@@ -72,7 +72,8 @@ impl<C: LawfulText> Reader<C> {
         requires same { C.base chip.now ≡ self.old.base }
         requires limit { length self.old.text + length piece.now ≤ MOST_BYTES }
         ensures again { (error : AnError) → self.old.error ≡ Some error → result ≡ Err error }
-        ensures bad { self.old.error ≡ None → IfErr result (TellsFront (C.analysis self.old.base) (C.texts self.old.base) (self.old.text ++ piece.now)) }
+        ensures bad { self.old.error ≡ None
+            → IfErr result (TellsFront (C.analysis self.old.base) (C.texts self.old.base) (self.old.text ++ piece.now)) }
         ensures good { OnOk result ((number : ℕ) (fault : AFault) → ¬ IsFaultyFront (C.analysis self.old.base) (C.texts self.old.base) (self.old.text ++ piece.now) number fault) }
         ensures text { OnOk result (self.new ≡ record self.old { text = self.old.text ++ piece.now }) }
         ensures failed { IfErr result (λ error. (used : ℕ)

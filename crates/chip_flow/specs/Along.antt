@@ -31,7 +31,8 @@ pub record IsWayIn {A : Type 0} (IsAddress : ℕ → Type 0) (Is : A → Type 0)
   pub known : Is way.1
 
 module _ {A : Type 0} (laws : WayLaws A) (joined : A → A → A) (IsAddress : ℕ → Type 0) (Is : A → Type 0) (keeps : (a b : A) → Is a → Is b → Is (joined a b)) where
-  either_formed : (behind target : ℕ) (on jumped : Option A) (way : Way A) → IsAddress behind → IsAddress target → IfSome on Is → IfSome jumped Is
+  either_formed : (behind target : ℕ) (on jumped : Option A) (way : Way A) → IsAddress behind → IsAddress target
+      → IfSome on Is → IfSome jumped Is
       → IsWayOf joined behind target on jumped way → IsWayIn IsAddress Is way
   either_formed behind target on jumped way f g a b (goes_on is to) = record { address = subst IsAddress (sym to) f; known = some_is Is on way.1 a is }
   either_formed behind target on jumped way f g a b (jumps is to) = record { address = subst IsAddress (sym to) g; known = some_is Is jumped way.1 b is }
@@ -40,7 +41,8 @@ module _ {A : Type 0} (laws : WayLaws A) (joined : A → A → A) (IsAddress : �
     known = subst Is (sym is) (keeps one other (some_is Is on one a is_on) (some_is Is jumped other b is_jumped));
   }
 
-  pub ways_formed : (made : Onward A) → IsOnward IsAddress Is made → (way : Way A) → Contains (ways_in joined made) way → IsWayIn IsAddress Is way
+  pub ways_formed : (made : Onward A) → IsOnward IsAddress Is made → (way : Way A) → Contains (ways_in joined made) way
+      → IsWayIn IsAddress Is way
   ways_formed (Leaves a) form way h = absurd (in_none way h)
   ways_formed (Open targets) form way h = absurd (in_none way h)
   ways_formed (Lands targets a) form way h =
@@ -72,12 +74,14 @@ stands_way Is Holds ways to a other both more form stands holds = record {
 
 -- on one of the two ways of a jump, of which what is joined holds where either does
 module _ {A : Type 0} (laws : WayLaws A) (joined : A → A → A) (Is Holds : A → Type 0) (behind target : ℕ) (on jumped : Option A) (on_is : IfSome on Is) (jumped_is : IfSome jumped Is) where
-  pub way_on : ((a b : A) → Is a → Is b → Holds a → Holds (joined a b)) → (a : A) → on ≡ Some a → Holds a → HasWay Holds (ways_of joined behind target on jumped) behind
+  pub way_on : ((a b : A) → Is a → Is b → Holds a → Holds (joined a b)) → (a : A) → on ≡ Some a → Holds a
+      → HasWay Holds (ways_of joined behind target on jumped) behind
   way_on more a is holds = subst (λ way. HasWay Holds (ways_of joined behind target way jumped) behind) (sym is)
       (stands_way Is Holds (ways_of joined behind target (Some a) jumped) behind a jumped (joined a) (λ b form. more a b (some_is Is on a on_is is) form holds) jumped_is
       (laws.on joined behind target a jumped) holds)
 
-  pub way_jumped : ((a b : A) → Is a → Is b → Holds b → Holds (joined a b)) → (b : A) → jumped ≡ Some b → Holds b → HasWay Holds (ways_of joined behind target on jumped) target
+  pub way_jumped : ((a b : A) → Is a → Is b → Holds b → Holds (joined a b)) → (b : A) → jumped ≡ Some b → Holds b
+      → HasWay Holds (ways_of joined behind target on jumped) target
   way_jumped more b is holds = subst (λ way. HasWay Holds (ways_of joined behind target on way) target) (sym is)
       (stands_way Is Holds (ways_of joined behind target on (Some b)) target b on (λ a. joined a b) (λ a form. more a b form (some_is Is jumped b jumped_is is) holds) on_is
       (laws.jumped joined behind target on b) holds)
@@ -85,10 +89,13 @@ module _ {A : Type 0} (laws : WayLaws A) (joined : A → A → A) (Is Holds : A 
 -- MORE TARGETS THAN ARE FOLLOWED
 
 -- what holds of both ways to go on
-pub limited_is : {A : Type 0} (limit : ℕ) (targets : Form) (made : Onward A) (Is : Onward A → Type 0) → Is (Open targets) → Is made → Is (limited limit targets made)
-limited_is limit targets made Is open_is made_is = cond_both (are_too_many limit targets) (Open targets) made Is (λ _. open_is) (λ _. made_is)
+pub limited_is : {A : Type 0} (limit : ℕ) (targets : Form) (made : Onward A) (Is : Onward A → Type 0)
+    → Is (Open targets) → Is made → Is (limited limit targets made)
+limited_is limit targets made Is open_is made_is =
+    cond_both (are_too_many limit targets) (Open targets) made Is (λ _. open_is) (λ _. made_is)
 
-pub limited_open : {A : Type 0} (limit : ℕ) (targets values : Form) (made : Onward A) → (made ≡ Open values → ⊥) → limited limit targets made ≡ Open values
+pub limited_open : {A : Type 0} (limit : ℕ) (targets values : Form) (made : Onward A) → (made ≡ Open values → ⊥)
+    → limited limit targets made ≡ Open values
     → (targets ≡ values) × (limit < count_of 65536 values)
 limited_open {A} limit targets values made never is =
     cond_both (are_too_many limit targets) (Open targets) made (λ (o : Onward A). o ≡ Open values → (targets ≡ values) × (limit < count_of 65536 values))

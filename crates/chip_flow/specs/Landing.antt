@@ -32,7 +32,8 @@ use Rattle.chip_flow.specs.declared.going.Onward.TheVariants as onward
 -- WHAT IS SHOWN
 
 -- what shows some items is among more of them
-more_shown : (some all : List Item) (single : Single) → ((item : Item) → Contains some item → Contains all item) → AreShowing some single → AreShowing all single
+more_shown : (some all : List Item) (single : Single) → ((item : Item) → Contains some item → Contains all item)
+    → AreShowing some single → AreShowing all single
 more_shown some all single within (item, there, shows) = (item, within item there, shows)
 
 -- what a step of an instruction shows
@@ -43,7 +44,8 @@ step_singles pc sp bytes accesses to = Stood pc sp ∷ Ran pc bytes ∷ accesses
 
 -- each of its ways is an edge and a post
 module _ {A : Type 0} (laws : WayLaws A) (joined : A → A → A) (site : Site) where
-  way_edge : (made : Onward A) (way : Way A) → Contains (ways_in joined made) way → Contains (going_by joined site made).edges (items.Edge site.pc way.0)
+  way_edge : (made : Onward A) (way : Way A) → Contains (ways_in joined made) way
+      → Contains (going_by joined site made).edges (items.Edge site.pc way.0)
   way_edge (onward.Leaves a) way h = absurd (in_none way h)
   way_edge (onward.Open targets) way h = absurd (in_none way h)
   way_edge (onward.Lands targets a) way h = laws.edge site.pc (ways_to targets a) way h
@@ -54,7 +56,8 @@ module _ {A : Type 0} (laws : WayLaws A) (joined : A → A → A) (site : Site) 
   way_post (onward.Leaves a) way h = absurd (in_none way h)
   way_post (onward.Open targets) way h = absurd (in_none way h)
   way_post (onward.Lands targets a) way h = laws.post (calls_at site) site.frame (ways_to targets a) way h
-  way_post (onward.Jumps behind target on jumped) way h = laws.post (calls_at site) site.frame (ways_of joined behind target on jumped) way h
+  way_post (onward.Jumps behind target on jumped) way h =
+      laws.post (calls_at site) site.frame (ways_of joined behind target on jumped) way h
 
 -- what stands in front and behind is empty where all is
 parts_none : {X : Type 0} (xs ys : List X) → xs ++ ys ≡ [] → (xs ≡ []) × (ys ≡ [])
@@ -83,7 +86,8 @@ module _ {A I C S : Type 0} (machine : Machine S) (analysis : Analysis A) (cover
     abbrev own_so : List Item
     own_so = items.Instr pc (flow.bytes instr) ∷ (going_by joined site_so made.onward).edges
 
-    shown : (sp to : ℕ) (accesses : List Single) → HasValue (flow.stack a) sp → ((single : Single) → Contains accesses single → AreShowing made.accesses single)
+    shown : (sp to : ℕ) (accesses : List Single) → HasValue (flow.stack a) sp
+        → ((single : Single) → Contains accesses single → AreShowing made.accesses single)
         → (single : Single) → Contains (step_singles pc sp (flow.bytes instr) accesses to) single
         → AreShowing work_so.items single ⊎ (single ≡ Went pc to)
     shown sp to accesses on_stack shows single there =
@@ -126,7 +130,8 @@ module _ {A I C S : Type 0} (machine : Machine S) (analysis : Analysis A) (cover
         absurd (cc)
 
     pub run_lands : (s : S) (first : Option S) (sp : ℕ) (accesses : List Single) (t : S) → HasValue (flow.stack a) sp
-        → ((single : Single) → Contains accesses single → AreShowing made.accesses single) → Arrives site_so made.onward first t → work_so.opens ≡ []
+        → ((single : Single) → Contains accesses single → AreShowing made.accesses single)
+        → Arrives site_so made.onward first t → work_so.opens ≡ []
         → Lands machine analysis covers (At pc calls frame) work_so s first (step_singles pc sp (flow.bytes instr) accesses (machine.pc t)) t
     run_lands s first sp accesses t on_stack shows (on_way way there goes covered) none =
         stays (At way.0 (calls_at site_so way.0) frame) way.1 (post_in (At way.0 (calls_at site_so way.0) frame, way.1) (way_post laws joined site_so made.onward way there)) tt refl covered
@@ -144,14 +149,16 @@ module _ {A I C S : Type 0} (machine : Machine S) (analysis : Analysis A) (cover
 
   -- at a location, whatever stands there
   module _ (pc : ℕ) (calls : List ℕ) (frame : Frame) (a : A) where
-    entry_in : (found : Option I) (coming : C) → Contains (flow.comings a) coming → Contains (work_at joined flow pc calls frame a found).posts (entry_post flow pc a coming)
+    entry_in : (found : Option I) (coming : C) → Contains (flow.comings a) coming
+        → Contains (work_at joined flow pc calls frame a found).posts (entry_post flow pc a coming)
     entry_in None coming listed = in_map (entry_post flow pc a) (flow.comings a) coming listed
     entry_in (Some instr) coming listed =
         Contains-append_left (map (entry_post flow pc a) (flow.comings a)) (going_by joined (site_of flow pc calls frame instr) (flow.followed frame a pc instr).onward).posts
         (entry_post flow pc a coming) (in_map (entry_post flow pc a) (flow.comings a) coming listed)
 
     -- what the entries show stands beside SP
-    front_in : (found : Option I) (item : Item) → Contains (items.Stack pc (flow.stack a) ∷ flat_map (flow.entry_items pc) (flow.comings a)) item
+    front_in : (found : Option I) (item : Item)
+        → Contains (items.Stack pc (flow.stack a) ∷ flat_map (flow.entry_items pc) (flow.comings a)) item
         → Contains (work_at joined flow pc calls frame a found).items item
     front_in None item there = there
     front_in (Some instr) item there =
@@ -165,7 +172,8 @@ module _ {A I C S : Type 0} (machine : Machine S) (analysis : Analysis A) (cover
     waits_are (Some instr) = refl
 
     -- a frame with a stack pointer is waited for
-    waited : (work : Work A) (coming : C) (its : Frame) → work.waits ≡ flat_map (entry_waits flow) (flow.comings a) → Contains (flow.comings a) coming
+    waited : (work : Work A) (coming : C) (its : Frame) → work.waits ≡ flat_map (entry_waits flow) (flow.comings a)
+        → Contains (flow.comings a) coming
         → flow.frame_of coming ≡ its → (its ≡ Base → ⊥) → IsWaitedFor work its
     waited work coming Base is listed same irq = absurd (irq refl)
     waited work coming (Irq vector None level) is listed same irq = tt
@@ -175,7 +183,8 @@ module _ {A I C S : Type 0} (machine : Machine S) (analysis : Analysis A) (cover
         (subst (λ all. Contains all own) (sym (ap waits_for same)) (in_first own [])))
 
     -- those of one interrupt are among those of all
-    stack_or_entry : (coming : C) (item : Item) → Contains (flow.comings a) coming → Contains (items.Stack pc (flow.stack a) ∷ flow.entry_items pc coming) item
+    stack_or_entry : (coming : C) (item : Item) → Contains (flow.comings a) coming
+        → Contains (items.Stack pc (flow.stack a) ∷ flow.entry_items pc coming) item
         → Contains (items.Stack pc (flow.stack a) ∷ flat_map (flow.entry_items pc) (flow.comings a)) item
     stack_or_entry coming item listed there =
         let stack = items.Stack pc (flow.stack a) in
@@ -185,7 +194,8 @@ module _ {A I C S : Type 0} (machine : Machine S) (analysis : Analysis A) (cover
           | inr one ↦ in_rest stack all item (in_flat_map (flow.entry_items pc) (flow.comings a) coming item listed one)
         ]
 
-    pub entry_lands : (found : Option I) (s : S) (first : Option S) (coming : C) (sp : ℕ) (others : List Single) (t : S) → Contains (flow.comings a) coming → (flow.frame_of coming ≡ Base → ⊥)
+    pub entry_lands : (found : Option I) (s : S) (first : Option S) (coming : C) (sp : ℕ) (others : List Single) (t : S)
+        → Contains (flow.comings a) coming → (flow.frame_of coming ≡ Base → ⊥)
         → HasValue (flow.stack a) sp → covers (At (flow.handler coming) [] (flow.frame_of coming)) (flow.entered a pc coming) t (Some s)
         → ((single : Single) → Contains others single → AreShowing (flow.entry_items pc coming) single)
         → Lands machine analysis covers (At pc calls frame) (work_at joined flow pc calls frame a found) s first (Stood pc sp ∷ others) t

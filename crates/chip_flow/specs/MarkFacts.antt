@@ -9,7 +9,8 @@ along_none : (found : ℕ → List ℕ) (first : ℕ) → marks_along found firs
 unfolding marks_along
 along_none found first = refl
 
-along_first : (found : ℕ → List ℕ) (first count : ℕ) → marks_along found first (suc count) ≡ found first ++ marks_along found (first + 1) count
+along_first : (found : ℕ → List ℕ) (first count : ℕ)
+    → marks_along found first (suc count) ≡ found first ++ marks_along found (first + 1) count
 unfolding marks_along
 along_first found first count = refl
 
@@ -25,7 +26,8 @@ more_marks found at end marks added all below is so_far =
     ∙ ap (λ xs. marks ++ xs) (sym (ap (marks_along found at) more ∙ along_first found at (end - (at + 1)))) ∙ so_far
 
 -- and behind the last one nothing is left
-pub all_marks : (found : ℕ → List ℕ) (at end : ℕ) (marks all : List ℕ) → end ≤ at → marks ++ marks_along found at (end - at) ≡ all → marks ≡ all
+pub all_marks : (found : ℕ → List ℕ) (at end : ℕ) (marks all : List ℕ) → end ≤ at
+    → marks ++ marks_along found at (end - at) ≡ all → marks ≡ all
 all_marks found at end marks all far so_far =
     let over : end - at ≡ 0 = omega (arith, far) in
     sym (append-nil marks) ∙ sym (ap (λ rest. marks ++ rest) (ap (marks_along found at) over ∙ along_none found at)) ∙ so_far
@@ -40,7 +42,8 @@ module _ (m : ℕ) where
   both_marks xs ys f g = All-append (λ n. n < m) xs ys f g
 
   pub mark_below : (n : ℕ) → AreMarks m (mark m n)
-  mark_below n = cond_both (nat_lt n m) (n ∷ []) [] (AreMarks m) (λ e. All-cons (λ k. k < m) n [] (ltb-true n m e) none_marks) (λ e. none_marks)
+  mark_below n =
+      cond_both (nat_lt n m) (n ∷ []) [] (AreMarks m) (λ e. All-cons (λ k. k < m) n [] (ltb-true n m e) none_marks) (λ e. none_marks)
 
   pub by_below : (constant : Option ℕ) → AreMarks m (marks_by m constant)
   by_below None = none_marks

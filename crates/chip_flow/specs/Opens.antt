@@ -30,7 +30,8 @@ use Rattle.chip_flow.specs.declared.going.Onward.TheVariants as onward
 
 module _ {A I C : Type 0} (joined : A → A → A) (flow : Flow A I C) (pc : ℕ) (calls : List ℕ) (frame : Frame) (a : A) where
   -- each open of an entry
-  pub entry_open : (found : Option I) (coming : C) (open_so : ℕ × Cause) → Contains (flow.comings a) coming → Contains (flow.entry_opens pc coming) open_so
+  pub entry_open : (found : Option I) (coming : C) (open_so : ℕ × Cause) → Contains (flow.comings a) coming
+      → Contains (flow.entry_opens pc coming) open_so
       → Contains (work_at joined flow pc calls frame a found).opens open_so
   entry_open None coming open_so listed there =
       let entries = flat_map (flow.entry_opens pc) (flow.comings a) in
@@ -44,10 +45,12 @@ module _ {A I C : Type 0} (joined : A → A → A) (flow : Flow A I C) (pc : ℕ
 
   -- where no instruction stands
   pub fetch_open : Contains (work_at joined flow pc calls frame a None).opens (pc, Fetch)
-  fetch_open = Contains-append_right (flat_map (flow.entry_opens pc) (flow.comings a)) ((pc, Fetch) ∷ []) (pc, Fetch) (in_first (pc, Fetch) [])
+  fetch_open =
+      Contains-append_right (flat_map (flow.entry_opens pc) (flow.comings a)) ((pc, Fetch) ∷ []) (pc, Fetch) (in_first (pc, Fetch) [])
 
   -- the store of an instruction
-  pub store_open : (instr : I) (made : Followed A) (cause : Cause) → made.store ≡ Some cause → Contains (work_by joined flow pc calls frame a instr made).opens (pc, cause)
+  pub store_open : (instr : I) (made : Followed A) (cause : Cause) → made.store ≡ Some cause
+      → Contains (work_by joined flow pc calls frame a instr made).opens (pc, cause)
   store_open instr made cause is =
       let entries = flat_map (flow.entry_opens pc) (flow.comings a) in
       let going = (going_by joined (site_of flow pc calls frame instr) made.onward).opens in
@@ -56,7 +59,8 @@ module _ {A I C : Type 0} (joined : A → A → A) (flow : Flow A I C) (pc : ℕ
 
 -- EACH OPEN
 
-going_open : {A : Type 0} (joined : A → A → A) (site : Site) (Is : ℕ × Cause → Type 0) (made : Onward A) → ((targets : Form) → made ≡ onward.Open targets → Is (site.pc, Targets targets))
+going_open : {A : Type 0} (joined : A → A → A) (site : Site) (Is : ℕ × Cause → Type 0) (made : Onward A)
+    → ((targets : Form) → made ≡ onward.Open targets → Is (site.pc, Targets targets))
     → (open_so : ℕ × Cause) → Contains (going_by joined site made).opens open_so → Is open_so
 going_open joined site Is (onward.Leaves a) is open_so h = absurd (in_none open_so h)
 going_open joined site Is (onward.Open targets) is open_so h = subst Is (in_one (site.pc, Targets targets) open_so h) (is targets refl)
@@ -74,7 +78,8 @@ module _ {A I C : Type 0} (analysis : Analysis A) (joined : A → A → A) (flow
     pub entry : (coming : C) (open_so : ℕ × Cause) → Contains (flow.comings a) coming → Contains (flow.entry_opens pc coming) open_so
         → (pc ≡ open_so.0) × analysis.Breaks (At pc calls frame) a open_so.1
     pub fetch : flow.fetched pc ≡ None → analysis.Breaks (At pc calls frame) a Fetch
-    pub targets : (instr : I) (targets : Form) → flow.fetched pc ≡ Some instr → (flow.followed frame a pc instr).onward ≡ onward.Open targets
+    pub targets : (instr : I) (targets : Form) → flow.fetched pc ≡ Some instr
+        → (flow.followed frame a pc instr).onward ≡ onward.Open targets
         → analysis.Breaks (At pc calls frame) a (Targets targets)
     pub store : (instr : I) (cause : Cause) → flow.fetched pc ≡ Some instr → (flow.followed frame a pc instr).store ≡ Some cause
         → analysis.Breaks (At pc calls frame) a cause
@@ -82,7 +87,8 @@ module _ {A I C : Type 0} (analysis : Analysis A) (joined : A → A → A) (flow
   abbrev Breaking : ℕ → List ℕ → Frame → A → ℕ × Cause → Type 0
   Breaking pc calls frame a open_so = (pc ≡ open_so.0) × analysis.Breaks (At pc calls frame) a open_so.1
 
-  location_opens : (pc : ℕ) (calls : List ℕ) (frame : Frame) (a : A) → BreaksLimits pc calls frame a → (found : Option I) → flow.fetched pc ≡ found
+  location_opens : (pc : ℕ) (calls : List ℕ) (frame : Frame) (a : A) → BreaksLimits pc calls frame a
+      → (found : Option I) → flow.fetched pc ≡ found
       → (open_so : ℕ × Cause) → Contains (work_at joined flow pc calls frame a found).opens open_so → Breaking pc calls frame a open_so
   location_opens pc calls frame a breaks None is open_so h =
       let entries = flat_map (flow.entry_opens pc) (flow.comings a) in
@@ -104,7 +110,8 @@ module _ {A I C : Type 0} (analysis : Analysis A) (joined : A → A → A) (flow
       ]
 
   -- a return leaves nothing open
-  resumed_opens : (pc : ℕ) (calls : List ℕ) (frame : Frame) (from sp : ℕ) (a x : A) (open_so : ℕ × Cause) → Contains (resumption flow pc calls frame from sp a x).opens open_so → ⊥
+  resumed_opens : (pc : ℕ) (calls : List ℕ) (frame : Frame) (from sp : ℕ) (a x : A) (open_so : ℕ × Cause)
+      → Contains (resumption flow pc calls frame from sp a x).opens open_so → ⊥
   resumed_opens pc calls frame from sp a x open_so h =
       let full : Work A = record { items = Edge from pc ∷ []; posts = (At pc calls frame, flow.resumed frame a pc sp x) ∷ []; waits = []; opens = [] } in
       cond_both (may_be (flow.stack a) sp) full nothing (λ (work : Work A). Contains work.opens open_so → ⊥)
@@ -112,14 +119,16 @@ module _ {A I C : Type 0} (analysis : Analysis A) (joined : A → A → A) (flow
 
   pub opens_break : ((pc : ℕ) (calls : List ℕ) (frame : Frame) (a : A) → analysis.HasForm (At pc calls frame) a → BreaksLimits pc calls frame a)
       → (unit : WorkUnit) (a : A) (exit : Option A) (at : ℕ) (cause : Cause) → AreFormed analysis unit a exit
-      → Contains (work_of joined flow unit a exit).opens (at, cause) → (pc_of (location_of unit) ≡ at) × analysis.Breaks (location_of unit) a cause
+      → Contains (work_of joined flow unit a exit).opens (at, cause)
+      → (pc_of (location_of unit) ≡ at) × analysis.Breaks (location_of unit) a cause
   opens_break breaks (One (At pc calls frame)) a None at cause formed h =
       location_opens pc calls frame a (breaks pc calls frame a formed) (flow.fetched pc) refl (at, cause) h
   opens_break breaks (One (At pc calls frame)) a (Some exit) at cause formed h = absurd formed
   opens_break breaks (One (Exit pc frame)) a exit at cause formed h = absurd formed
   opens_break breaks (Back (At pc calls frame) (Exit from (Irq vector (Some sp) level))) a (Some exit) at cause formed h =
       absurd (resumed_opens pc calls frame from sp a exit (at, cause) h)
-  opens_break breaks (Back (At pc calls frame) (Exit from (Irq vector None level))) a (Some exit) at cause formed h = absurd (in_none (at, cause) h)
+  opens_break breaks (Back (At pc calls frame) (Exit from (Irq vector None level))) a (Some exit) at cause formed h =
+      absurd (in_none (at, cause) h)
   opens_break breaks (Back (At pc calls frame) (Exit from Base)) a (Some exit) at cause formed h = absurd (in_none (at, cause) h)
   opens_break breaks (Back (At pc calls frame) (Exit from left)) a None at cause formed h = absurd formed
   opens_break breaks (Back (At pc calls frame) (At from others left)) a exit at cause formed h = absurd formed

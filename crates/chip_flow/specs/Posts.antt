@@ -46,15 +46,18 @@ module _ {A I C : Type 0} (analysis : Analysis A) (joined : A → A → A) (flow
   -- what a location posts is in form, by its state
   pub record FormsPosts (pc : ℕ) (calls : List ℕ) (frame : Frame) (a : A) : Type 0 where
     pub entry : (coming : C) → Contains (flow.comings a) coming → IsPost (entry_post flow pc a coming)
-    pub way : (instr : I) → flow.fetched pc ≡ Some instr → (way : Way A) → Contains (ways_in joined (flow.followed frame a pc instr).onward) way
+    pub way : (instr : I) → flow.fetched pc ≡ Some instr → (way : Way A)
+        → Contains (ways_in joined (flow.followed frame a pc instr).onward) way
         → IsPost (At way.0 (calls_at (site_of flow pc calls frame instr) way.0) frame, way.1)
-    pub left : (instr : I) → flow.fetched pc ≡ Some instr → (b : A) → (flow.followed frame a pc instr).onward ≡ onward.Leaves b → IsPost (Exit pc frame, b)
+    pub left : (instr : I) → flow.fetched pc ≡ Some instr → (b : A)
+        → (flow.followed frame a pc instr).onward ≡ onward.Leaves b → IsPost (Exit pc frame, b)
 
   module _ (laws : WayLaws A) (pc : ℕ) (calls : List ℕ) (frame : Frame) (a : A) (forms : FormsPosts pc calls frame a) where
     entry_posts : (post : Node × A) → Contains (map (entry_post flow pc a) (flow.comings a)) post → IsPost post
     entry_posts post h = let (coming, listed, same) = from_map (entry_post flow pc a) (flow.comings a) post h in subst IsPost same (forms.entry coming listed)
 
-    location_posts : (found : Option I) → flow.fetched pc ≡ found → (post : Node × A) → Contains (work_at joined flow pc calls frame a found).posts post → IsPost post
+    location_posts : (found : Option I) → flow.fetched pc ≡ found → (post : Node × A)
+        → Contains (work_at joined flow pc calls frame a found).posts post → IsPost post
     location_posts None is post h = entry_posts post h
     location_posts (Some instr) is post h =
         let made = flow.followed frame a pc instr in
@@ -69,7 +72,8 @@ module _ {A I C : Type 0} (analysis : Analysis A) (joined : A → A → A) (flow
         → analysis.HasForm (Exit from (Irq vector (Some sp) level)) x → IsPost (At pc calls frame, flow.resumed frame a pc sp x)
 
   module _ (laws : WayLaws A) (forms : FormsAll) where
-    resumed_posts : (pc : ℕ) (calls : List ℕ) (frame : Frame) (from sp : ℕ) (a x : A) (post : Node × A) → IsPost (At pc calls frame, flow.resumed frame a pc sp x)
+    resumed_posts : (pc : ℕ) (calls : List ℕ) (frame : Frame) (from sp : ℕ) (a x : A) (post : Node × A)
+        → IsPost (At pc calls frame, flow.resumed frame a pc sp x)
         → Contains (resumption flow pc calls frame from sp a x).posts post → IsPost post
     resumed_posts pc calls frame from sp a x post form h =
         let own : Node × A = (At pc calls frame, flow.resumed frame a pc sp x) in

@@ -27,9 +27,11 @@ module _ {A I C S : Type 0} (machine : Machine S) (analysis : Analysis A) (cover
     pub entry : (exit : Node) (x : A) → (IsLocation exit → ⊥) → analysis.HasForm exit x → HasEntry (frame_of exit)
     pub goes_on : (pc : ℕ) (calls : List ℕ) (frame : Frame) (from vector sp level : ℕ) (a x : A) (f : S) (first : Option S) (t : S)
         → analysis.HasForm (At pc calls frame) a → analysis.HasForm (Exit from (Irq vector (Some sp) level)) x
-        → covers (At pc calls frame) a f first → covers (Exit from (Irq vector (Some sp) level)) x t (Some f) → GoesOn pc calls frame sp a x first t
+        → covers (At pc calls frame) a f first → covers (Exit from (Irq vector (Some sp) level)) x t (Some f)
+        → GoesOn pc calls frame sp a x first t
 
-  resumed : (pc : ℕ) (calls : List ℕ) (frame : Frame) (from vector sp level : ℕ) (a x : A) (first : Option S) (t : S) → GoesOn pc calls frame sp a x first t
+  resumed : (pc : ℕ) (calls : List ℕ) (frame : Frame) (from vector sp level : ℕ) (a x : A) (first : Option S) (t : S)
+      → GoesOn pc calls frame sp a x first t
       → Resumes machine analysis covers (At pc calls frame) (Exit from (Irq vector (Some sp) level)) (resumption flow pc calls frame from sp a x) first t
   resumed pc calls frame from vector sp level a x first t goes_on =
       let state = flow.resumed frame a pc sp x in
@@ -42,7 +44,8 @@ module _ {A I C S : Type 0} (machine : Machine S) (analysis : Analysis A) (cover
         shows = (Edge from pc, in_first (Edge from pc) [], (refl, goes_on.goes));
       })
 
-  pub return_resumes : ReturnsHold → (node exit : Node) (a x : A) (f : S) (first : Option S) (t : S) → IsLocation node → (IsLocation exit → ⊥)
+  pub return_resumes : ReturnsHold → (node exit : Node) (a x : A) (f : S) (first : Option S) (t : S) → IsLocation node
+      → (IsLocation exit → ⊥)
       → analysis.HasForm node a → analysis.HasForm exit x → covers node a f first → covers exit x t (Some f)
       → Resumes machine analysis covers node exit (work_of joined flow (Back node exit) a (Some x)) first t
   return_resumes laws (Exit pc frame) exit a x f first t location exits form exit_form covers_f left = absurd location

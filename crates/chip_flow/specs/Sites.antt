@@ -9,7 +9,8 @@ use Rattle.chip_flow.specs.declared.calls.CallEffect.{CallEffect}
 use Rattle.chip_flow.specs.declared.calls.CallEffect.TheVariants.{Pushes, Pops, Keeps}
 
 module _ (IsAddress : ℕ → Type 0) where
-  pushed_sites : (limit : ℕ) (calls : List ℕ) (pc : ℕ) → limit ≤ 8 → IsAddress pc → AreSites IsAddress calls → AreSites IsAddress (pushed calls pc limit)
+  pushed_sites : (limit : ℕ) (calls : List ℕ) (pc : ℕ) → limit ≤ 8 → IsAddress pc → AreSites IsAddress calls
+      → AreSites IsAddress (pushed calls pc limit)
   pushed_sites limit calls pc small is are =
       let all = calls ++ pc ∷ [] in
       let long = length-drop (length all - limit) all in
@@ -25,7 +26,8 @@ module _ (IsAddress : ℕ → Type 0) where
       record { few = omega (arith, long, few); each = All-take IsAddress (length calls - 1) calls are.each })
       (λ _. are)
 
-  pub sites_by : (limit : ℕ) (effect : CallEffect) (end : Option ℕ) (pc : ℕ) (calls : List ℕ) (to : ℕ) → limit ≤ 8 → IsAddress pc → AreSites IsAddress calls
+  pub sites_by : (limit : ℕ) (effect : CallEffect) (end : Option ℕ) (pc : ℕ) (calls : List ℕ) (to : ℕ) → limit ≤ 8
+      → IsAddress pc → AreSites IsAddress calls
       → AreSites IsAddress (calls_by limit effect end pc calls to)
   sites_by limit Pushes end pc calls to small is are = pushed_sites limit calls pc small is are
   sites_by limit Pops end pc calls to small is are = popped_sites calls end to are

@@ -50,7 +50,8 @@ module _ (Is : Set → Type 0) where
   going_stacks joined site (Lands targets a) = edge_stacks site.pc (ways_to targets a)
   going_stacks joined site (Jumps behind target on jumped) = edge_stacks site.pc (ways_of joined behind target on jumped)
 
-  either_work : {A : Type 0} (is : Bool) (x y : Work A) → AreStacksOf x.items → AreStacksOf y.items → AreStacksOf (if is then x else y).items
+  either_work : {A : Type 0} (is : Bool) (x y : Work A) → AreStacksOf x.items → AreStacksOf y.items
+      → AreStacksOf (if is then x else y).items
   either_work true x y first second = first
   either_work false x y first second = second
 
@@ -66,14 +67,16 @@ module _ (Is : Set → Type 0) where
     entering_stacks pc a accesses own = both_stacks accesses (items.Stack pc (flow.stack a) ∷ flat_map (flow.entry_items pc) (flow.comings a)) own
         (shows.stack a, each_stack (flow.entry_items pc) (flow.comings a) (shows.entry pc))
 
-    location_stacks : (pc : ℕ) (calls : List ℕ) (frame : Frame) (a : A) (found : Option I) → AreStacksOf (work_at joined flow pc calls frame a found).items
+    location_stacks : (pc : ℕ) (calls : List ℕ) (frame : Frame) (a : A) (found : Option I)
+        → AreStacksOf (work_at joined flow pc calls frame a found).items
     location_stacks pc calls frame a None = entering_stacks pc a [] tt
     location_stacks pc calls frame a (Some instr) =
         let made = flow.followed frame a pc instr in
         both_stacks (made.accesses ++ items.Stack pc (flow.stack a) ∷ flat_map (flow.entry_items pc) (flow.comings a)) _
         (entering_stacks pc a made.accesses (shows.accesses frame a pc instr)) (tt, going_stacks joined (site_of flow pc calls frame instr) made.onward)
 
-    back_stacks : (pc : ℕ) (calls : List ℕ) (frame : Frame) (exit_node : Node) (a : A) (exit : Option A) → AreStacksOf (return_work flow pc calls frame exit_node a exit).items
+    back_stacks : (pc : ℕ) (calls : List ℕ) (frame : Frame) (exit_node : Node) (a : A) (exit : Option A)
+        → AreStacksOf (return_work flow pc calls frame exit_node a exit).items
     back_stacks pc calls frame (Exit from (Irq vector (Some sp) level)) a (Some exit) = either_work (may_be (flow.stack a) sp) _ nothing (tt, tt) tt
     back_stacks pc calls frame (Exit from (Irq vector (Some sp) level)) a None = tt
     back_stacks pc calls frame (Exit from (Irq vector None level)) a exit = tt
@@ -87,7 +90,8 @@ module _ (Is : Set → Type 0) where
     unit_stacks (Back (Exit pc frame) other) a exit = tt
 
     -- each stack pointer that a work shows is such a set
-    pub stacks_shown : (unit : WorkUnit) (a : A) (exit : Option A) (pc : ℕ) (set : Set) → Contains (work_of joined flow unit a exit).items (items.Stack pc set) → Is set
+    pub stacks_shown : (unit : WorkUnit) (a : A) (exit : Option A) (pc : ℕ) (set : Set)
+        → Contains (work_of joined flow unit a exit).items (items.Stack pc set) → Is set
     stacks_shown unit a exit pc set there =
         let all = (work_of joined flow unit a exit).items in
         All-contains IsStackOf all (items.Stack pc set) (All-from_recursion IsStackOf all (unit_stacks unit a exit)) there

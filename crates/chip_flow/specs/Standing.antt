@@ -17,12 +17,14 @@ by_answer (Err refusal) = none_stands refusal refl refl
 by_answer (Ok (instr, len)) = stands instr len refl refl
 
 -- the decoder finds one
-pub one_found : {I N : Type 0} (answer : Result (I × ℕ) N) (instr : I) (len : ℕ) (found : Option I) → answer ≡ Ok (instr, len) → Fetching answer found → found ≡ Some instr
+pub one_found : {I N : Type 0} (answer : Result (I × ℕ) N) (instr : I) (len : ℕ) (found : Option I)
+    → answer ≡ Ok (instr, len) → Fetching answer found → found ≡ Some instr
 one_found {I} answer instr len found is (stands other more there e) =
     let same : other ≡ instr = ap (λ (p : I × ℕ). p.0) (same_Ok (sym there ∙ is)) in e ∙ ap Some same
 one_found answer instr len found is (none_stands refusal there e) = absurd (let both = sym there ∙ is in cc)
 
 -- or none
-pub none_found : {I N : Type 0} (answer : Result (I × ℕ) N) (refusal : N) (found : Option I) → answer ≡ Err refusal → Fetching answer found → found ≡ None
+pub none_found : {I N : Type 0} (answer : Result (I × ℕ) N) (refusal : N) (found : Option I) → answer ≡ Err refusal
+    → Fetching answer found → found ≡ None
 none_found answer refusal found is (stands instr len there e) = absurd (let both = sym there ∙ is in cc)
 none_found answer refusal found is (none_stands other there e) = e

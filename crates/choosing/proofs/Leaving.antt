@@ -4,7 +4,8 @@ use Rattle.std.proofs.lemmas.Grind.{common_steps}
 use Rattle.std.proofs.lemmas.List.{drop-drop}
 use Rattle.std.proofs.Math.Seq.{drop-append_seam}
 
-pub left_behind : (list front rest : List ℕ) (next count size : ℕ) → size ≡ length list → next ≤ length list → drop next list ≡ front ++ rest → length rest ≡ count
+pub left_behind : (list front rest : List ℕ) (next count size : ℕ) → size ≡ length list → next ≤ length list
+    → drop next list ≡ front ++ rest → length rest ≡ count
     → drop (size - count) list ≡ rest
 left_behind list front rest next count size whole within is counted =
     let lengths : length list - next ≡ length front + length rest = grind (arith, common_steps, ap length is) in

@@ -77,16 +77,19 @@ if_front false f g most p q = q.front
 
 if_small : {A : Type 0} (b : Bool) (f g : Asking A) (most : ℕ) → AsksAtMost most f → AsksAtMost most g → (choices rest : List ℕ) (a : A)
     → cond b (f choices) (g choices) ≡ Some (a, rest)
-    → (front : List ℕ) × All (λ choice. choice < 65536) front × ((more : List ℕ) → cond b (f (front ++ more)) (g (front ++ more)) ≡ Some (a, more))
+    → (front : List ℕ) × All (λ choice. choice < 65536) front
+    × ((more : List ℕ) → cond b (f (front ++ more)) (g (front ++ more)) ≡ Some (a, more))
 if_small true f g most p q = p.small
 if_small false f g most p q = q.small
 
-if_enough : {A : Type 0} (b : Bool) (f g : Asking A) (most : ℕ) → AsksAtMost most f → AsksAtMost most g → (choices : List ℕ) → most ≤ length choices
+if_enough : {A : Type 0} (b : Bool) (f g : Asking A) (most : ℕ) → AsksAtMost most f → AsksAtMost most g
+    → (choices : List ℕ) → most ≤ length choices
     → (a : A) × (rest : List ℕ) × (cond b (f choices) (g choices) ≡ Some (a, rest)) × (length choices ≤ most + length rest)
 if_enough true f g most p q = p.enough
 if_enough false f g most p q = q.enough
 
-pub if_asks : {A : Type 0} (most : ℕ) (b : Bool) (f g : Asking A) → AsksAtMost most f → AsksAtMost most g → AsksAtMost most (λ choices. cond b (f choices) (g choices))
+pub if_asks : {A : Type 0} (most : ℕ) (b : Bool) (f g : Asking A) → AsksAtMost most f → AsksAtMost most g
+    → AsksAtMost most (λ choices. cond b (f choices) (g choices))
 if_asks most b f g p q = record { front = if_front b f g most p q; small = if_small b f g most p q; enough = if_enough b f g most p q }
 
 pub choose_asks : {A : Type 0} (most : ℕ) (b : Bool) (f g : Asking A) → AsksAtMost most f → AsksAtMost most g → AsksAtMost most (cond b f g)
@@ -94,11 +97,13 @@ choose_asks most true f g p q = p
 choose_asks most false f g p q = q
 
 pub ask_if_asks : (asked : Bool) (options : ℕ) → 0 < options → options ≤ 65536 → AsksAtMost 1 (ask_if asked options)
-ask_if_asks asked options some few = if_asks 1 asked (ask options) (answer 0) (ask_asks options some few) (more_asks 0 1 (answer 0) (omega arith) (answer_asks 0))
+ask_if_asks asked options some few =
+    if_asks 1 asked (ask options) (answer 0) (ask_asks options some few) (more_asks 0 1 (answer 0) (omega arith) (answer_asks 0))
 
 -- ---- one after the other
 
-then_front : {A B : Type 0} (most more : ℕ) (first : Asking A) (next : A → Asking B) → AsksAtMost most first → ((a : A) → AsksAtMost more (next a))
+then_front : {A B : Type 0} (most more : ℕ) (first : Asking A) (next : A → Asking B) → AsksAtMost most first
+    → ((a : A) → AsksAtMost more (next a))
     → (choices rest : List ℕ) (b : B) (found : Option (A × List ℕ)) → first choices ≡ found → continued next found ≡ Some (b, rest)
     → (front : List ℕ) × (choices ≡ front ++ rest) × Answers (and_then first next) front b
 then_front most more first next p q choices rest b None e made = absurd cc
@@ -107,10 +112,12 @@ then_front most more first next p q choices rest b (Some (a, mid)) e made =
     let (two, are, twos) = (q a).front mid rest b made in (
       one ++ two,
       is ∙ ap (λ (l : List ℕ). one ++ l) are ∙ sym (append_assoc one two rest),
-      λ more. ap (λ (l : List ℕ). continued next (first l)) (append_assoc one two more) ∙ ap (continued next) (ones (two ++ more)) ∙ twos more,
+      λ more. ap (λ (l : List ℕ). continued next (first l)) (append_assoc one two more)
+          ∙ ap (continued next) (ones (two ++ more)) ∙ twos more,
     )
 
-then_small : {A B : Type 0} (most more : ℕ) (first : Asking A) (next : A → Asking B) → AsksAtMost most first → ((a : A) → AsksAtMost more (next a))
+then_small : {A B : Type 0} (most more : ℕ) (first : Asking A) (next : A → Asking B) → AsksAtMost most first
+    → ((a : A) → AsksAtMost more (next a))
     → (choices rest : List ℕ) (b : B) (found : Option (A × List ℕ)) → first choices ≡ found → continued next found ≡ Some (b, rest)
     → (front : List ℕ) × All (λ choice. choice < 65536) front × Answers (and_then first next) front b
 then_small most more first next p q choices rest b None e made = absurd cc
@@ -119,10 +126,12 @@ then_small most more first next p q choices rest b (Some (a, mid)) e made =
     let (two, less, twos) = (q a).small mid rest b made in (
       one ++ two,
       All-append (λ choice. choice < 65536) one two few less,
-      λ more. ap (λ (l : List ℕ). continued next (first l)) (append_assoc one two more) ∙ ap (continued next) (ones (two ++ more)) ∙ twos more,
+      λ more. ap (λ (l : List ℕ). continued next (first l)) (append_assoc one two more)
+          ∙ ap (continued next) (ones (two ++ more)) ∙ twos more,
     )
 
-then_enough : {A B : Type 0} (most more : ℕ) (first : Asking A) (next : A → Asking B) → AsksAtMost most first → ((a : A) → AsksAtMost more (next a))
+then_enough : {A B : Type 0} (most more : ℕ) (first : Asking A) (next : A → Asking B) → AsksAtMost most first
+    → ((a : A) → AsksAtMost more (next a))
     → (choices : List ℕ) → most + more ≤ length choices
     → (b : B) × (rest : List ℕ) × (and_then first next choices ≡ Some (b, rest)) × (length choices ≤ most + more + length rest)
 then_enough most more first next p q choices h =
@@ -130,7 +139,8 @@ then_enough most more first next p q choices h =
     let (b, rest, are, used) = (q a).enough mid (omega (arith, h, taken)) in
     (b, rest, ap (continued next) is ∙ are, omega (arith, taken, used))
 
-pub then_asks : {A B : Type 0} (most more : ℕ) (first : Asking A) (next : A → Asking B) → AsksAtMost most first → ((a : A) → AsksAtMost more (next a))
+pub then_asks : {A B : Type 0} (most more : ℕ) (first : Asking A) (next : A → Asking B) → AsksAtMost most first
+    → ((a : A) → AsksAtMost more (next a))
     → AsksAtMost (most + more) (and_then first next)
 then_asks most more first next p q = record {
   front = λ choices rest b e. then_front most more first next p q choices rest b (first choices) refl e;
@@ -140,12 +150,14 @@ then_asks most more first next p q = record {
 
 -- ---- what follows for the whole
 
-pub whole_front : {A : Type 0} (most : ℕ) (asking : Asking A) → AsksAtMost most asking → (choices rest : List ℕ) (a : A) → asking choices ≡ Some (a, rest)
+pub whole_front : {A : Type 0} (most : ℕ) (asking : Asking A) → AsksAtMost most asking → (choices rest : List ℕ) (a : A)
+    → asking choices ≡ Some (a, rest)
     → (front : List ℕ) × (choices ≡ front ++ rest) × (asking front ≡ Some (a, []))
 whole_front most asking p choices rest a e =
     let (front, is, goes) = p.front choices rest a e in (front, is, ap asking (sym (append-nil front)) ∙ goes [])
 
-pub onward : {A : Type 0} (most : ℕ) (asking : Asking A) → AsksAtMost most asking → (front rest : List ℕ) (a : A) → asking front ≡ Some (a, [])
+pub onward : {A : Type 0} (most : ℕ) (asking : Asking A) → AsksAtMost most asking → (front rest : List ℕ) (a : A)
+    → asking front ≡ Some (a, [])
     → asking (front ++ rest) ≡ Some (a, rest)
 onward most asking p front rest a e =
     let (one, is, goes) = p.front front [] a e in ap (λ (f : List ℕ). asking (f ++ rest)) (is ∙ append-nil one) ∙ goes rest
@@ -160,10 +172,12 @@ one_front_of most asking p front other rest more a b same e f =
     (append_cancel_right front other rest (subst (λ (l : List ℕ). front ++ rest ≡ other ++ l) (sym rests) same), value_is a b rest more both)
 
 -- the same answer by 16-bit choices, all of which it uses
-pub small_front : {A : Type 0} (most : ℕ) (asking : Asking A) → AsksAtMost most asking → (choices rest : List ℕ) (a : A) → asking choices ≡ Some (a, rest)
+pub small_front : {A : Type 0} (most : ℕ) (asking : Asking A) → AsksAtMost most asking → (choices rest : List ℕ) (a : A)
+    → asking choices ≡ Some (a, rest)
     → (front : List ℕ) × All (λ choice. choice < 65536) front × (asking front ≡ Some (a, []))
 small_front most asking p choices rest a e =
     let (front, few, goes) = p.small choices rest a e in (front, few, ap asking (sym (append-nil front)) ∙ goes [])
 
-pub enough_choices : {A : Type 0} (most : ℕ) (asking : Asking A) → AsksAtMost most asking → (choices : List ℕ) → most ≤ length choices → IsSome (asking choices)
+pub enough_choices : {A : Type 0} (most : ℕ) (asking : Asking A) → AsksAtMost most asking → (choices : List ℕ)
+    → most ≤ length choices → IsSome (asking choices)
 enough_choices most asking p choices h = let (a, rest, is, taken) = p.enough choices h in ap is_some is

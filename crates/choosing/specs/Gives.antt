@@ -17,17 +17,20 @@ ask_each options (choice ∷ choices) rest a some e = let is = value_is (choice 
 pub ask_gives : (options : ℕ) → 0 < options → Gives (λ (option : ℕ). option < options) (ask options)
 ask_gives options some = record { each = λ choices rest a e. ask_each options choices rest a some e }
 
-if_each : {A : Type 0} (P : A → Type 0) (b : Bool) (f g : Asking A) → (b ≡ true → Gives P f) → (b ≡ false → Gives P g) → (choices rest : List ℕ) (a : A)
+if_each : {A : Type 0} (P : A → Type 0) (b : Bool) (f g : Asking A) → (b ≡ true → Gives P f) → (b ≡ false → Gives P g)
+    → (choices rest : List ℕ) (a : A)
     → cond b (f choices) (g choices) ≡ Some (a, rest) → P a
 if_each P true f g p q = (p refl).each
 if_each P false f g p q = (q refl).each
 
 -- by a test
-pub if_gives : {A : Type 0} (P : A → Type 0) (b : Bool) (f g : Asking A) → (b ≡ true → Gives P f) → (b ≡ false → Gives P g) → Gives P (λ choices. cond b (f choices) (g choices))
+pub if_gives : {A : Type 0} (P : A → Type 0) (b : Bool) (f g : Asking A) → (b ≡ true → Gives P f)
+    → (b ≡ false → Gives P g) → Gives P (λ choices. cond b (f choices) (g choices))
 if_gives P b f g p q = record { each = if_each P b f g p q }
 
 -- the same where the test doesn't matter
-pub either_gives : {A : Type 0} (P : A → Type 0) (b : Bool) (f g : Asking A) → Gives P f → Gives P g → Gives P (λ choices. cond b (f choices) (g choices))
+pub either_gives : {A : Type 0} (P : A → Type 0) (b : Bool) (f g : Asking A) → Gives P f → Gives P g
+    → Gives P (λ choices. cond b (f choices) (g choices))
 either_gives P b f g p q = if_gives P b f g (λ _. p) (λ _. q)
 
 pub choose_gives : {A : Type 0} (P : A → Type 0) (b : Bool) (f g : Asking A) → Gives P f → Gives P g → Gives P (cond b f g)
@@ -38,7 +41,8 @@ pub ask_if_gives : (asked : Bool) (options : ℕ) → 0 < options → Gives (λ 
 ask_if_gives asked options some =
     if_gives (λ (option : ℕ). option < options) asked (ask options) (answer 0) (λ _. ask_gives options some) (λ _. answer_gives (λ (option : ℕ). option < options) 0 some)
 
-then_each : {A B : Type 0} (P : A → Type 0) (Q : B → Type 0) (first : Asking A) (next : A → Asking B) → Gives P first → ((a : A) → P a → Gives Q (next a))
+then_each : {A B : Type 0} (P : A → Type 0) (Q : B → Type 0) (first : Asking A) (next : A → Asking B) → Gives P first
+    → ((a : A) → P a → Gives Q (next a))
     → (choices rest : List ℕ) (b : B) (found : Option (A × List ℕ)) → first choices ≡ found → continued next found ≡ Some (b, rest) → Q b
 then_each P Q first next p q choices rest b None e made = absurd cc
 then_each P Q first next p q choices rest b (Some (a, mid)) e made = (q a (p.each choices mid a e)).each mid rest b made

@@ -68,7 +68,8 @@ record IsOver {A : Type 0} (m : Analysis A) (b : BookState A) (work : Work A) : 
   pub is_unit : IsUnitOver m (table_of b.nodes) unit at exit
   pub is_work : work ≡ m.work unit at exit
 
-over_of : {A : Type 0} (m : Analysis A) (b : BookState A) → ArePairs b → IsItsTable m b → (work : Work A) → Contains (live_works b) work → IsOver m b work
+over_of : {A : Type 0} (m : Analysis A) (b : BookState A) → ArePairs b → IsItsTable m b → (work : Work A)
+    → Contains (live_works b) work → IsOver m b work
 over_of {A = A} m b are its work h =
     let (unit, listed) = from_values (live_pairs b) work h in
     let (is_unit, done, found, same) = are.units unit work listed in

@@ -37,10 +37,12 @@ module _ {A : Type 0} (m : Analysis A) (f g : Node → Option A) (same : (node :
   held_like : (node : Node) (state : A) → IsHeldIn m f node state → IsHeldIn m g node state
   held_like node state h = (h.0, sym (same node) ∙ h.1, h.2)
 
-formed_like : {A : Type 0} (m : Analysis A) (f g : Node → Option A) → ((node : Node) → f node ≡ g node) → IsFormedTable m f → IsFormedTable m g
+formed_like : {A : Type 0} (m : Analysis A) (f g : Node → Option A) → ((node : Node) → f node ≡ g node)
+    → IsFormedTable m f → IsFormedTable m g
 formed_like m f g same formed = λ node state e. formed node state (same node ∙ e)
 
-pub closed_like : {A : Type 0} (m : Analysis A) (f g : Node → Option A) → ((node : Node) → f node ≡ g node) → IsClosedTable m f → IsClosedTable m g
+pub closed_like : {A : Type 0} (m : Analysis A) (f g : Node → Option A) → ((node : Node) → f node ≡ g node)
+    → IsClosedTable m f → IsClosedTable m g
 closed_like m f g same closed = record {
   started = held_like m f g same m.first_node m.first_state closed.started;
   no_open = λ unit at exit u. closed.no_open unit at exit (unit_like m g f (λ node. sym (same node)) unit at exit u);
@@ -58,7 +60,8 @@ same_table {A = A} (h ∷ hs) node = elim (cases_Bool (same_node node h.node)) [
   | inr s ↦ ap (option_map (λ (x : Held A). x.state)) (cond-false _ _ _ s) ∙ same_table hs node ∙ sym (cond-false _ _ _ s)
 ]
 
-none_apart : {A : Type 0} (hs : List (Held A)) (node : Node) → held_at hs node ≡ None → AllByRecursion (λ other. same_node node other ≡ false) (keys_of (pairs hs))
+none_apart : {A : Type 0} (hs : List (Held A)) (node : Node) → held_at hs node ≡ None
+    → AllByRecursion (λ other. same_node node other ≡ false) (keys_of (pairs hs))
 none_apart [] node none = tt
 none_apart (h ∷ hs) node none = elim (cases_Bool (same_node node h.node)) [
   | inl s ↦ let bad : Some h ≡ None = sym (cond-true _ _ _ s) ∙ none in absurd (cc)
@@ -113,17 +116,21 @@ module _ {A : Type 0} (live : WorkUnit → Bool) where
         ap (λ t. t && list_all is_shut ps) own ∙ all_shut ps (subst (AllByRecursion HasNone) (cond-false _ _ _ s) all)
   ]
 
-  pub shut_open : (ps : List (WorkUnit × Work A)) → list_all is_shut ps ≡ true → (p : WorkUnit × Work A) → Contains (live_in ps) p → p.1.opens ≡ []
+  pub shut_open : (ps : List (WorkUnit × Work A)) → list_all is_shut ps ≡ true → (p : WorkUnit × Work A)
+      → Contains (live_in ps) p → p.1.opens ≡ []
   shut_open ps e p there = subst HasNone there.2 (All-from_recursion HasNone (live_in ps) (shut_all ps e) there.0 p there.1)
 
-  pub open_shut : (ps : List (WorkUnit × Work A)) → ((p : WorkUnit × Work A) → Contains (live_in ps) p → p.1.opens ≡ []) → list_all is_shut ps ≡ true
+  pub open_shut : (ps : List (WorkUnit × Work A)) → ((p : WorkUnit × Work A) → Contains (live_in ps) p → p.1.opens ≡ [])
+      → list_all is_shut ps ≡ true
   open_shut ps none = all_shut ps (recursion_from_All HasNone (live_in ps) (λ k d inside. none _ (All-contains_itself (live_in ps) k d inside)))
 
 -- THE CLOSED BOOK
-pub has_none : {A : Type 0} (b : BookState A) → ArePairs b → IsFinished b → ((p : WorkUnit × Work A) → Contains (live_pairs b) p → p.1.opens ≡ []) → IsClosed b
+pub has_none : {A : Type 0} (b : BookState A) → ArePairs b → IsFinished b
+    → ((p : WorkUnit × Work A) → Contains (live_pairs b) p → p.1.opens ≡ []) → IsClosed b
 has_none b are finished none = record { finished = finished; no_open = λ unit d u found. none (unit, d.work) (are.listed unit d u found) }
 
-pub none_has : {A : Type 0} (b : BookState A) → ArePairs b → IsClosed b → (p : WorkUnit × Work A) → Contains (live_pairs b) p → p.1.opens ≡ []
+pub none_has : {A : Type 0} (b : BookState A) → ArePairs b → IsClosed b → (p : WorkUnit × Work A)
+    → Contains (live_pairs b) p → p.1.opens ≡ []
 none_has b are closed p there =
     let d = are.units p.0 p.1 there in
     ap (λ (w : Work _). w.opens) (sym d.3) ∙ closed.no_open p.0 d.1 d.0 d.2

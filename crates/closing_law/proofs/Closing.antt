@@ -32,8 +32,10 @@ unit_of_location : {A : Type 0} (m : Analysis A) (table : Node → Option A) (no
 unit_of_location m table (At pc calls frame) a location held = held
 unit_of_location m table (Exit pc frame) a location held = absurd location
 
-unit_of_return : {A : Type 0} (m : Analysis A) (table : Node → Option A) (node : Node) (a : A) (pc : ℕ) (frame : Frame) (x : A) → IsLocation node
-    → table node ≡ Some a → table (Exit pc frame) ≡ Some x → WaitsFor m table node a frame → IsUnitOver m table (Back node (Exit pc frame)) a (Some x)
+unit_of_return : {A : Type 0} (m : Analysis A) (table : Node → Option A) (node : Node) (a : A) (pc : ℕ) (frame : Frame) (x : A)
+    → IsLocation node
+    → table node ≡ Some a → table (Exit pc frame) ≡ Some x → WaitsFor m table node a frame
+    → IsUnitOver m table (Back node (Exit pc frame)) a (Some x)
 unit_of_return m table (At at calls home) a pc frame x location held left waits = (held, left, waits)
 unit_of_return m table (Exit at home) a pc frame x location held left waits = absurd location
 
@@ -53,18 +55,22 @@ module _ {S A : Type 0} (machine : Machine S) (m : Analysis A) (covered : Cover 
   first_of [] = None
   first_of (f ∷ fs) = Some f
 
-  covers_of : (suspended : List S) (node : Node) (a : A) (s : S) → Stands m covered table suspended node a s → covered node a s (first_of suspended)
+  covers_of : (suspended : List S) (node : Node) (a : A) (s : S) → Stands m covered table suspended node a s
+      → covered node a s (first_of suspended)
   covers_of [] node a s stands = stands.1
   covers_of (f ∷ fs) node a s stands = stands.0
 
   -- another state stands where this one does, under another node of the same frame that covers it
-  stands_like : (suspended : List S) (node to : Node) (a b : A) (s t : S) → frame_of to ≡ frame_of node → Stands m covered table suspended node a s → covered to b t (first_of suspended) → Stands m covered table suspended to b t
+  stands_like : (suspended : List S) (node to : Node) (a b : A) (s t : S) → frame_of to ≡ frame_of node
+      → Stands m covered table suspended node a s → covered to b t (first_of suspended)
+      → Stands m covered table suspended to b t
   stands_like [] node to a b s t same stands covers = (same ∙ stands.0, covers)
   stands_like (f ∷ fs) node to a b s t same stands covers =
       (covers, subst (λ frame. IsSuspended m covered table frame (λ n c. Stands m covered table fs n c f)) (sym same) stands.1)
 
   -- a post's state is covered by what the table holds
-  covers_held : (node : Node) (a : A) (s : S) (first : Option S) → m.HasForm node a → (held : IsHeldIn m table node a) → covered node a s first → covered node held.0 s first
+  covers_held : (node : Node) (a : A) (s : S) (first : Option S) → m.HasForm node a → (held : IsHeldIn m table node a)
+      → covered node a s first → covered node held.0 s first
   covers_held node a s first form held covers = laws.covers_more node a held.0 s first form (formed node held.0 held.1) held.2 covers
 
   -- what a step from a state that stands leads to
@@ -73,16 +79,22 @@ module _ {S A : Type 0} (machine : Machine S) (m : Analysis A) (covered : Cover 
     shown : (item : Single) → Contains items item → IsShown m table item
 
   -- a handler is entered over the state that stands
-  suspended_at : (work : Work A) (frame : Frame) (P : Node → A → Type 0) (node : Node) (a : A) → work ≡ m.work (One node) a None → IsLocation node → table node ≡ Some a → P node a → IsWaitedFor work frame → IsSuspended m covered table frame P
+  suspended_at : (work : Work A) (frame : Frame) (P : Node → A → Type 0) (node : Node) (a : A)
+      → work ≡ m.work (One node) a None → IsLocation node → table node ≡ Some a → P node a → IsWaitedFor work frame
+      → IsSuspended m covered table frame P
   suspended_at work Base P node a e location held p waited = waited
   suspended_at work (Irq vector None level) P node a e location held p waited = tt
   suspended_at work (Irq vector (Some sp) level) P node a e location held p waited =
       (node, a, location, held, subst (λ w. Contains w.waits (Irq vector (Some sp) level)) e waited, p)
 
   -- the return from an exit of a frame whose entry is known, over the suspended states
-  returned : (frame : Frame) (pc : ℕ) (x : A) (t : S) (suspended : List S) (work : Work A) (items : List Single) → HasEntry frame → m.HasForm (Exit pc frame) x → table (Exit pc frame) ≡ Some x
-      → covered (Exit pc frame) x t (first_of suspended) → (node : Node) (a : A) (s : S) → frame_of node ≡ frame → Stands m covered table suspended node a s
-      → (node_is : IsLocation node) → table node ≡ Some a → work ≡ m.work (One node) a None → ((item : Single) → Contains items item → AreShowing work.items item ⊎ (item ≡ Edge pc (machine.pc t))) → Goes items t
+  returned : (frame : Frame) (pc : ℕ) (x : A) (t : S) (suspended : List S) (work : Work A) (items : List Single)
+      → HasEntry frame → m.HasForm (Exit pc frame) x → table (Exit pc frame) ≡ Some x
+      → covered (Exit pc frame) x t (first_of suspended) → (node : Node) (a : A) (s : S) → frame_of node ≡ frame
+      → Stands m covered table suspended node a s
+      → (node_is : IsLocation node) → table node ≡ Some a → work ≡ m.work (One node) a None
+      → ((item : Single) → Contains items item → AreShowing work.items item ⊎ (item ≡ Edge pc (machine.pc t)))
+      → Goes items t
   returned Base pc x t suspended work items entry form held covers node a s same stands location there own shows = absurd entry
   returned (Irq vector None level) pc x t suspended work items entry form held covers node a s same stands location there own shows = absurd entry
   returned (Irq vector (Some sp) level) pc x t [] work items entry form held covers node a s same stands location there own shows =
@@ -133,7 +145,8 @@ module _ {S A : Type 0} (machine : Machine S) (m : Analysis A) (covered : Cover 
     more : IsHeldIn m table to state
     covers : (t : S) (first : Option S) → covered to state t first → covered to more.0 t first
 
-  held_post : (node : Node) (a : A) → IsLocation node → table node ≡ Some a → (to : Node) (state : A) → Contains (m.work (One node) a None).posts (to, state)
+  held_post : (node : Node) (a : A) → IsLocation node → table node ≡ Some a → (to : Node) (state : A)
+      → Contains (m.work (One node) a None).posts (to, state)
       → HeldPost to state
   held_post node a location held to state posted =
       let more : IsHeldIn m table to state = closed.posts_held (One node) a None to state (unit_of_location m table node a location held) posted in
@@ -148,12 +161,14 @@ module _ {S A : Type 0} (machine : Machine S) (m : Analysis A) (covered : Cover 
 
   -- what a location's work shows
   shown_at : (node : Node) (a : A) → IsLocation node → table node ≡ Some a → (items : List Single)
-      → ((item : Single) → Contains items item → AreShowing (m.work (One node) a None).items item) → (item : Single) → Contains items item → IsShown m table item
+      → ((item : Single) → Contains items item → AreShowing (m.work (One node) a None).items item) → (item : Single)
+      → Contains items item → IsShown m table item
   shown_at node a location held items shows item contains =
       record { unit = One node; at = a; exit = None; is_unit = unit_of_location m table node a location held; shows = shows item contains }
 
   -- where a step lands, the next state stands
-  goes_on : (node : Node) (a : A) (s : S) (suspended : List S) (items : List Single) (t : S) → IsLocation node → table node ≡ Some a → Stands m covered table suspended node a s
+  goes_on : (node : Node) (a : A) (s : S) (suspended : List S) (items : List Single) (t : S) → IsLocation node
+      → table node ≡ Some a → Stands m covered table suspended node a s
       → Lands machine m covered node (m.work (One node) a None) s (first_of suspended) items t → Goes items t
   goes_on node a s suspended items t location held stands (stays to state posted to_location same covers shows) =
       let post = held_post node a location held to state posted in

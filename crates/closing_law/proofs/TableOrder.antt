@@ -30,7 +30,8 @@ module _ (one : (m n : Node) → (same_node m n ≡ true) ↔ (m ≡ n)) where
 
   module _ {A : Type 0} where
     -- what one table holds another one holds too
-    held_too : (nodes others : List (Node × A)) → IsDistinct same_node (keys_of others) → IsPermutation nodes others → (node : Node) (state : A)
+    held_too : (nodes others : List (Node × A)) → IsDistinct same_node (keys_of others) → IsPermutation nodes others
+        → (node : Node) (state : A)
         → table_in nodes node ≡ Some state → table_in others node ≡ Some state
     held_too nodes others distinct same node state held =
         lookup-from_Contains equivalence node state others distinct

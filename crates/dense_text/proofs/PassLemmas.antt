@@ -125,7 +125,8 @@ module _ (before after : Option (List ℕ)) (parts : Parts) (kept bytes : List �
 
   pub stops_in_tail : (one two : Option (List ℕ)) (held kept_two told : List ℕ)
       → IsBehind before (kept ++ flat_map (piece_of bytes) pieces) one held → IsBehind one (held ++ piece_of bytes parts.last) two kept_two
-      → AppendsPrefix two (kept_two ++ told) after → told ≡ bytes_at bytes parts.tail.start parts.tail.len → AppendsPrefix before (text_of parts) after
+      → AppendsPrefix two (kept_two ++ told) after → told ≡ bytes_at bytes parts.tail.start parts.tail.len
+      → AppendsPrefix before (text_of parts) after
   stops_in_tail one two held kept_two told first second front same =
       let all = flat_map (piece_of bytes) pieces in
       let last = piece_of bytes parts.last in

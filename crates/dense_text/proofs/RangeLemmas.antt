@@ -81,6 +81,7 @@ repeated_part closed bytes part front start len has so_far =
     ∙ sym (append_assoc closed (bytes_at bytes start len) part) ∙ ap (λ text. text ++ part) so_far
 
 -- a copy that grew by one more
-pub copied : (front part told new : List ℕ) (n : ℕ) → told ≡ part → new ≡ (front ++ repeat n part) ++ told → new ≡ front ++ repeat (n + 1) part
+pub copied : (front part told new : List ℕ) (n : ℕ) → told ≡ part → new ≡ (front ++ repeat n part) ++ told
+    → new ≡ front ++ repeat (n + 1) part
 copied front part told new n same is =
     is ∙ ap (λ t. (front ++ repeat n part) ++ t) same ∙ append_assoc front (repeat n part) part ∙ ap (λ t. front ++ t) (sym (repeat_more n part))

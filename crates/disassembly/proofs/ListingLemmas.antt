@@ -8,20 +8,23 @@ module _ (unit : ℕ) (reads : Reads) where
   abbrev pub GoesOn : List (Option ℕ) → (units at passed : ℕ) → List ℕ → Type 0
   GoesOn image units at passed text = (rest : List ℕ) → IsWalk unit reads image units at passed rest → IsDisassembly unit reads image (text ++ rest)
 
-  pub begins : (image : List (Option ℕ)) (units at : ℕ) (text : List ℕ) → units ≡ 65536 / unit → at ≡ 0 → text ≡ [] → GoesOn image units at 0 text
+  pub begins : (image : List (Option ℕ)) (units at : ℕ) (text : List ℕ) → units ≡ 65536 / unit → at ≡ 0 → text ≡ []
+      → GoesOn image units at 0 text
   unfolding IsDisassembly
   begins image units at text all start none rest walk =
       subst (λ n. IsWalk unit reads image n 0 0 (text ++ rest)) all
       (subst (λ a. IsWalk unit reads image units a 0 (text ++ rest)) start (subst (λ t. IsWalk unit reads image units at 0 (t ++ rest)) (sym none) walk))
 
-  pub ends : (image : List (Option ℕ)) (units at passed : ℕ) (text : List ℕ) → units ≡ 0 → GoesOn image units at passed text → IsDisassembly unit reads image text
+  pub ends : (image : List (Option ℕ)) (units at passed : ℕ) (text : List ℕ) → units ≡ 0
+      → GoesOn image units at passed text → IsDisassembly unit reads image text
   unfolding IsWalk
   ends image units at passed text none on =
       let walk : IsWalk unit reads image 0 at passed [] = refl in
       subst (IsDisassembly unit reads image) (append-nil text) (on [] (subst (λ n. IsWalk unit reads image n at passed []) (sym none) walk))
 
   -- a unit below what was told
-  pub passes_over : (image : List (Option ℕ)) (left units at next passed : ℕ) (text : List ℕ) → left ≡ suc units → next ≡ at + unit → at < passed
+  pub passes_over : (image : List (Option ℕ)) (left units at next passed : ℕ) (text : List ℕ) → left ≡ suc units
+      → next ≡ at + unit → at < passed
       → GoesOn image left at passed text → GoesOn image units next passed text
   unfolding IsWalk
   passes_over image left units at next passed text size after below on = λ rest walk.
@@ -45,7 +48,8 @@ module _ (unit : ℕ) (reads : Reads) where
   HaveOneAnswer = (image : List (Option ℕ)) (at : ℕ) (answer other : Found) → reads image at answer → reads image at other → answer ≡ other
 
   -- units from an address on have one text
-  one_walk : HaveOneAnswer → (image : List (Option ℕ)) (units at passed : ℕ) (text other : List ℕ) → IsWalk unit reads image units at passed text
+  one_walk : HaveOneAnswer → (image : List (Option ℕ)) (units at passed : ℕ) (text other : List ℕ)
+      → IsWalk unit reads image units at passed text
       → IsWalk unit reads image units at passed other → other ≡ text
   unfolding IsWalk
   one_walk one image zero at passed text other is also = also ∙ sym is

@@ -41,7 +41,8 @@ any_covers sets first ram from size address v map at word below are addresses is
 
 pub any_form : SetLaws → (from size : ℕ) (map : CellMap) (at : Form) (word : Word) → map.hi < 65536 → from ≤ map.lo
     → AreCells map.lo map.hi from map.cells → IsSize size
-    → IsNormal 65536 word.set → (size ≡ 1 → (n : ℕ) → Has 65536 word.set n → n < 256) → AreCells map.lo map.hi from (write_any map at size word).cells
+    → IsNormal 65536 word.set → (size ≡ 1 → (n : ℕ) → Has 65536 word.set n → n < 256)
+    → AreCells map.lo map.hi from (write_any map at size word).cells
 unfolding write_any
 any_form sets from size map at word below first are is normal byte = elim (cases_Bool (count_of 65536 at == 1)) [
   | inl one ↦ rw one (one_form from (slice_index (members 65536 at) 0) size map word below first are is normal byte)

@@ -39,11 +39,13 @@ pub written-first : (ram : ℕ → ℕ) (at size v : ℕ) → written ram at siz
 unfolding written
 written-first ram at size v = rw (eq-eqb at at refl) refl
 
-pub written-second : (ram : ℕ → ℕ) (at size v address : ℕ) → (address ≡ at → ⊥) → size ≡ 2 → address ≡ (at + 1) % 65536 → written ram at size v address ≡ v / 256
+pub written-second : (ram : ℕ → ℕ) (at size v address : ℕ) → (address ≡ at → ⊥) → size ≡ 2 → address ≡ (at + 1) % 65536
+    → written ram at size v address ≡ v / 256
 unfolding written
 written-second ram at size v address other two next = rw (ne_eqb address at other, eq-eqb size 2 two, eq-eqb address ((at + 1) % 65536) next) refl
 
-pub written-beyond : (ram : ℕ → ℕ) (at size v address : ℕ) → (address ≡ at → ⊥) → (size ≡ 2 → address ≡ (at + 1) % 65536 → ⊥) → written ram at size v address ≡ ram address
+pub written-beyond : (ram : ℕ → ℕ) (at size v address : ℕ) → (address ≡ at → ⊥)
+    → (size ≡ 2 → address ≡ (at + 1) % 65536 → ⊥) → written ram at size v address ≡ ram address
 unfolding written
 written-beyond ram at size v address other beyond = rw (ne_eqb address at other) (elim (cases_Bool ((size == 2) && (address == (at + 1) % 65536))) [
   | inl meets ↦ let parts = and_parts (size == 2) (address == (at + 1) % 65536) meets in
@@ -74,7 +76,8 @@ parts_of : (v : ℕ) → v % 256 + 256 * (v / 256) ≡ v
 parts_of v = omega arith
 
 -- what was written stands there
-pub written_itself : (ram : ℕ → ℕ) (at size v : ℕ) → at < 65536 → IsSize size → (size ≡ 1 → v < 256) → number_at (written ram at size v) at size ≡ v
+pub written_itself : (ram : ℕ → ℕ) (at size v : ℕ) → at < 65536 → IsSize size → (size ≡ 1 → v < 256)
+    → number_at (written ram at size v) at size ≡ v
 written_itself ram at size v below (inl one) small = subst (λ (s : ℕ). number_at (written ram at size v) at s ≡ v) (sym one)
     (written-first ram at size v ∙ byte_alone v (small one))
 written_itself ram at size v below (inr two) small = subst (λ (s : ℕ). number_at (written ram at size v) at s ≡ v) (sym two)

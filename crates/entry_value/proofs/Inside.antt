@@ -14,12 +14,14 @@ first_inside : (place size hi : ℕ) → IsSize size → place + size ≤ hi + 1
 first_inside place size hi (inl one) high = omega arith
 first_inside place size hi (inr two) high = omega arith
 
-second_inside : (one other : ℕ → ℕ) (lo hi place size : ℕ) → hi < 65536 → Agree lo hi one other → lo ≤ place → place + size ≤ hi + 1 → size ≡ 2
+second_inside : (one other : ℕ → ℕ) (lo hi place size : ℕ) → hi < 65536 → Agree lo hi one other → lo ≤ place
+    → place + size ≤ hi + 1 → size ≡ 2
     → one ((place + 1) % 65536) ≡ other ((place + 1) % 65536)
 second_inside one other lo hi place size below same low high two =
     subst (λ (at : ℕ). one at ≡ other at) (sym (whole_turn place size hi two high below)) (same (place + 1) (omega arith) (omega arith))
 
-same_inside : (first : Option Suspended) (one other : ℕ → ℕ) (lo hi : ℕ) → hi < 65536 → Agree lo hi one other → (cell : Cell) → StandsAt first one cell × IsCell lo hi cell
+same_inside : (first : Option Suspended) (one other : ℕ → ℕ) (lo hi : ℕ) → hi < 65536 → Agree lo hi one other
+    → (cell : Cell) → StandsAt first one cell × IsCell lo hi cell
     → StandsAt first other cell
 same_inside first one other lo hi below same cell h =
     subst (λ (n : ℕ). HoldsOfWord first cell.word n)
@@ -27,7 +29,8 @@ same_inside first one other lo hi below same cell h =
     (second_inside one other lo hi cell.place cell.size below same h.1.low h.1.high))
     h.0
 
-pub agreeing_stands : (first : Option Suspended) (one other : ℕ → ℕ) (lo hi from : ℕ) (cells : List Cell) → hi < 65536 → AreCells lo hi from cells → AreBytes other
+pub agreeing_stands : (first : Option Suspended) (one other : ℕ → ℕ) (lo hi from : ℕ) (cells : List Cell) → hi < 65536
+    → AreCells lo hi from cells → AreBytes other
     → ((at : ℕ) → lo ≤ at → at ≤ hi → one at ≡ other at) → StandsUnder first cells one → StandsUnder first cells other
 agreeing_stands first one other lo hi from cells below are bytes same h = (
   bytes,

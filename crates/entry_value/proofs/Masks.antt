@@ -65,7 +65,8 @@ pub masked_normal : SetLaws → BitLaws → (width m : ℕ) (logic : Logic) (set
     → IsNormal (2 ^ width) (logic_set width logic set (single m))
 masked_normal sets bits width m logic set below n = bits.logic_normal width logic set (single m) n (sets.single (2 ^ width) m below).0
 
-masked_has : SetLaws → BitLaws → (width m v : ℕ) (logic : Logic) (set : Form) → m < 2 ^ width → IsNormal (2 ^ width) set → Has (2 ^ width) set v
+masked_has : SetLaws → BitLaws → (width m v : ℕ) (logic : Logic) (set : Form) → m < 2 ^ width → IsNormal (2 ^ width) set
+    → Has (2 ^ width) set v
     → Has (2 ^ width) (logic_set width logic set (single m)) (logic_of logic v m)
 masked_has sets bits width m v logic set below n h =
     let mask = sets.single (2 ^ width) m below in

@@ -56,7 +56,8 @@ common_is (Some a) (Some b) = elim (cases_Bool (is_same_entry a b)) [ inl same �
 
 -- ---- sets with relations
 
-both_within : SetLaws → (width : ℕ) (a b : Value) → Includes (2 ^ width) b.set a.set → is_entry_within a.entry b.entry ≡ true → is_value_within width a b ≡ true
+both_within : SetLaws → (width : ℕ) (a b : Value) → Includes (2 ^ width) b.set a.set
+    → is_entry_within a.entry b.entry ≡ true → is_value_within width a b ≡ true
 both_within sets width a b includes entries =
     and_from (is_within (2 ^ width) a.set b.set) (is_entry_within a.entry b.entry) ((sets.tested (2 ^ width) a.set b.set).1 includes) entries
 
@@ -71,10 +72,12 @@ value_along sets width a b c h k =
 pub value_itself : SetLaws → (width : ℕ) (a : Value) → is_value_within width a a ≡ true
 value_itself sets width a = both_within sets width a a (λ v h. h) (entry_itself a.entry)
 
-pub join_first : SetLaws → (width : ℕ) (a b : Value) → IsFormed width a → IsFormed width b → is_value_within width a (value_joined width a b) ≡ true
+pub join_first : SetLaws → (width : ℕ) (a b : Value) → IsFormed width a → IsFormed width b
+    → is_value_within width a (value_joined width a b) ≡ true
 join_first sets width a b n k = both_within sets width a (value_joined width a b) (sets.join_first (2 ^ width) a.set b.set n k) (common_of_first a.entry b.entry)
 
-pub join_second : SetLaws → (width : ℕ) (a b : Value) → IsFormed width a → IsFormed width b → is_value_within width b (value_joined width a b) ≡ true
+pub join_second : SetLaws → (width : ℕ) (a b : Value) → IsFormed width a → IsFormed width b
+    → is_value_within width b (value_joined width a b) ≡ true
 join_second sets width a b n k = both_within sets width b (value_joined width a b) (sets.join_second (2 ^ width) a.set b.set n k) (common_of_second a.entry b.entry)
 
 pub widen_held : SetLaws → (width : ℕ) (a b : Value) (marks : List ℕ) → IsFormed width a → IsFormed width b → AreMarks (2 ^ width) marks
@@ -138,7 +141,8 @@ each_of_within new (cell ∷ cells) h =
 
 -- ---- cells within others
 
-found_within : (found : Option Word) (word other : Word) → found ≡ Some word → word_within word other ≡ true → is_found_within found other ≡ true
+found_within : (found : Option Word) (word other : Word) → found ≡ Some word → word_within word other ≡ true
+    → is_found_within found other ≡ true
 found_within found word other e h = rw e h
 
 pub cells_itself : SetLaws → (lo hi from : ℕ) (cells : List Cell) → AreCells lo hi from cells → are_within cells cells ≡ true
@@ -198,11 +202,13 @@ byte_above sets bits size marks one = record {
 abbrev IsSized : (size : ℕ) → Word → Type 0
 IsSized size word = IsNormal 65536 word.set × (size ≡ 1 → IsLow word)
 
-formed_found : (lo hi from : ℕ) (cells : List Cell) → AreCells lo hi from cells → (place size : ℕ) → OfSome (IsSized size) (cell_at cells place size)
+formed_found : (lo hi from : ℕ) (cells : List Cell) → AreCells lo hi from cells → (place size : ℕ)
+    → OfSome (IsSized size) (cell_at cells place size)
 formed_found lo hi from cells are place size = found_at (λ p s word. IsSized s word) cells place size
     (each_then (IsCell lo hi) (λ cell. IsSized cell.size cell.word) cells (λ cell is. (is.normal, is.byte)) (each_cell lo hi from cells are))
 
-held_within : (f : Word → Word → Word) (lo hi low high start : ℕ) (held new : List Cell) → AreCells low high start new → (cell : Cell) → Above cell.size f
+held_within : (f : Word → Word → Word) (lo hi low high start : ℕ) (held new : List Cell) → AreCells low high start new
+    → (cell : Cell) → Above cell.size f
     → IsCell lo hi cell × IsFoundIn held cell → OfSome (IsWithin held) (with_both f new cell)
 held_within f lo hi low high start held new are cell above h = of_both (IsWithin held) f cell (cell_at new cell.place cell.size)
     (of_some_then (IsSized cell.size) (λ word. let c : Cell = record { place = cell.place; size = cell.size; word = f cell.word word } in is_nothing cell.size (f cell.word word) ≡ false → IsWithin held c)
@@ -216,17 +222,20 @@ new_is_within f new cell None e h = tt
 new_is_within f new cell (Some word) e h = of_telling (IsWithin new) (record { place = cell.place; size = cell.size; word = f cell.word word })
     (λ says. found_within (cell_at new cell.place cell.size) word (f cell.word word) e h)
 
-new_within : (f : Word → Word → Word) (lo hi low high start : ℕ) (new : List Cell) → AreCells low high start new → (cell : Cell) → Above cell.size f
+new_within : (f : Word → Word → Word) (lo hi low high start : ℕ) (new : List Cell) → AreCells low high start new
+    → (cell : Cell) → Above cell.size f
     → IsCell lo hi cell → OfSome (IsWithin new) (with_both f new cell)
 new_within f lo hi low high start new are cell above is = new_is_within f new cell (cell_at new cell.place cell.size) refl
     (of_some_then (IsSized cell.size) (λ word. word_within word (f cell.word word) ≡ true) (cell_at new cell.place cell.size)
     (λ word formed. above.other cell.word word is.normal formed.0 formed.1)
     (formed_found low high start new are cell.place cell.size))
 
-each_cell_found : (lo hi from : ℕ) (cells : List Cell) → AreCells lo hi from cells → Each (λ cell. IsCell lo hi cell × IsFoundIn cells cell) cells
+each_cell_found : (lo hi from : ℕ) (cells : List Cell) → AreCells lo hi from cells
+    → Each (λ cell. IsCell lo hi cell × IsFoundIn cells cell) cells
 each_cell_found lo hi from cells are = each_both (IsCell lo hi) (IsFoundIn cells) cells (each_cell lo hi from cells are) (each_found lo hi from cells are)
 
-pub cells_joined_held : SetLaws → (lo hi from low high start : ℕ) (held new : List Cell) → AreCells lo hi from held → AreCells low high start new
+pub cells_joined_held : SetLaws → (lo hi from low high start : ℕ) (held new : List Cell) → AreCells lo hi from held
+    → AreCells low high start new
     → are_within held (join_cells held new) ≡ true
 unfolding join_cells
 cells_joined_held sets lo hi from low high start held new are others = within_from held (kept (with_both word_join new) held)
@@ -234,7 +243,8 @@ cells_joined_held sets lo hi from low high start held new are others = within_fr
     (λ cell h. held_within word_join lo hi low high start held new others cell (join_above sets cell.size) h)
     (each_cell_found lo hi from held are))
 
-pub cells_joined_new : SetLaws → (lo hi from low high start : ℕ) (held new : List Cell) → AreCells lo hi from held → AreCells low high start new
+pub cells_joined_new : SetLaws → (lo hi from low high start : ℕ) (held new : List Cell) → AreCells lo hi from held
+    → AreCells low high start new
     → are_within new (join_cells held new) ≡ true
 unfolding join_cells
 cells_joined_new sets lo hi from low high start held new are others = within_from new (kept (with_both word_join new) held)
@@ -242,7 +252,8 @@ cells_joined_new sets lo hi from low high start held new are others = within_fro
     (λ cell is. new_within word_join lo hi low high start new others cell (join_above sets cell.size) is)
     (each_cell lo hi from held are))
 
-pub cells_widened_held : SetLaws → BitLaws → (lo hi from low high start : ℕ) (held new : List Cell) (marks : List ℕ) → AreCells lo hi from held
+pub cells_widened_held : SetLaws → BitLaws → (lo hi from low high start : ℕ) (held new : List Cell) (marks : List ℕ)
+    → AreCells lo hi from held
     → AreCells low high start new
     → All (λ mark. mark < 65536) marks → are_within held (widen_cells held new marks) ≡ true
 unfolding widen_cells
@@ -253,7 +264,8 @@ cells_widened_held sets bits lo hi from low high start held new marks are others
     (λ wide. held_within (λ a b. word_widen a b marks) lo hi low high start held new others cell (widen_above sets cell.size marks below) h))
     (each_cell_found lo hi from held are))
 
-pub cells_widened_new : SetLaws → BitLaws → (lo hi from low high start : ℕ) (held new : List Cell) (marks : List ℕ) → AreCells lo hi from held
+pub cells_widened_new : SetLaws → BitLaws → (lo hi from low high start : ℕ) (held new : List Cell) (marks : List ℕ)
+    → AreCells lo hi from held
     → AreCells low high start new
     → All (λ mark. mark < 65536) marks → are_within new (widen_cells held new marks) ≡ true
 unfolding widen_cells

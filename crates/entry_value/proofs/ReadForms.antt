@@ -54,12 +54,14 @@ of_byte_normal : SetLaws → BitLaws → (found : Option Form) → OfSome (IsNor
 of_byte_normal sets bits None h = any_byte_normal
 of_byte_normal sets bits (Some byte) h = bits.pair_normal byte (single 0) h (sets.single 256 0 (omega arith)).0
 
-of_bytes_normal : BitLaws → (low high : Option Form) → OfSome (IsNormal 256) low → OfSome (IsNormal 256) high → IsNormal 65536 (word_of_bytes low high)
+of_bytes_normal : BitLaws → (low high : Option Form) → OfSome (IsNormal 256) low → OfSome (IsNormal 256) high
+    → IsNormal 65536 (word_of_bytes low high)
 of_bytes_normal bits None high h k = any_word_normal
 of_bytes_normal bits (Some low) None h k = any_word_normal
 of_bytes_normal bits (Some low) (Some high) h k = bits.pair_normal low high h k
 
-together_normal : SetLaws → BitLaws → (lo hi at size : ℕ) (cells : List Cell) → Each (IsCell lo hi) cells → IsNormal 65536 (put_together cells at size).set
+together_normal : SetLaws → BitLaws → (lo hi at size : ℕ) (cells : List Cell) → Each (IsCell lo hi) cells
+    → IsNormal 65536 (put_together cells at size).set
 together_normal sets bits lo hi at size cells h = elim (cases_Bool (size == 1)) [
   | inl one ↦ rw one (of_byte_normal sets bits (byte_at cells at) (byte_normal bits lo hi at cells h))
   | inr wide ↦ rw wide (of_bytes_normal bits (byte_at cells at) (byte_at cells ((at + 1) % 65536)) (byte_normal bits lo hi at cells h) (byte_normal bits lo hi ((at + 1) % 65536) cells h))
@@ -75,7 +77,8 @@ or_else : (P : Word → Type 0) (found : Option Word) (otherwise : Word) → OfS
 or_else P None otherwise h k = k
 or_else P (Some word) otherwise h k = h
 
-pub read_normal : SetLaws → BitLaws → (lo hi from at size : ℕ) (cells : List Cell) → AreCells lo hi from cells → IsNormal 65536 (read cells at size).set
+pub read_normal : SetLaws → BitLaws → (lo hi from at size : ℕ) (cells : List Cell) → AreCells lo hi from cells
+    → IsNormal 65536 (read cells at size).set
 unfolding read
 read_normal sets bits lo hi from at size cells are =
     let all = each_cell lo hi from cells are in
@@ -88,7 +91,8 @@ one_low : (size : ℕ) (found : Option Word) → size ≡ 1 → OfSome (λ word.
 one_low size None one h = tt
 one_low size (Some word) one h = h one
 
-byte_read_low : SetLaws → BitLaws → (lo hi from at : ℕ) (cells : List Cell) → AreCells lo hi from cells → (v : ℕ) → Has 65536 (read cells at 1).set v → v < 256
+byte_read_low : SetLaws → BitLaws → (lo hi from at : ℕ) (cells : List Cell) → AreCells lo hi from cells → (v : ℕ)
+    → Has 65536 (read cells at 1).set v → v < 256
 unfolding read
 byte_read_low sets bits lo hi from at cells are =
     let all = each_cell lo hi from cells are in

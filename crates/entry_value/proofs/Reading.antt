@@ -70,7 +70,8 @@ pub record Holds (first : Option Suspended) (ram : ℕ → ℕ) (cell : Cell) : 
   pub normal : IsNormal 65536 cell.word.set
   pub holds : HoldsOfWord first cell.word (number_at ram cell.place cell.size)
 
-byte_found : BitLaws → (first : Option Suspended) (ram : ℕ → ℕ) → AreBytes ram → (at : ℕ) → at < 65536 → (cells : List Cell) → Each (Holds first ram) cells
+byte_found : BitLaws → (first : Option Suspended) (ram : ℕ → ℕ) → AreBytes ram → (at : ℕ) → at < 65536
+    → (cells : List Cell) → Each (Holds first ram) cells
     → OfSome (IsByte ram at) (byte_at cells at)
 byte_found bits first ram bytes at below [] h = tt
 byte_found bits first ram bytes at below (cell ∷ cells) h = elim (cases_Bool (has_byte cell at)) [
@@ -102,7 +103,8 @@ of_bytes sets bits ram bytes at next (Some low) (Some high) h k =
 next_below : (at : ℕ) → (at + 1) % 65536 < 65536
 next_below at = omega arith
 
-together : SetLaws → BitLaws → (first : Option Suspended) (ram : ℕ → ℕ) → AreBytes ram → (at size : ℕ) → at < 65536 → IsSize size → (cells : List Cell)
+together : SetLaws → BitLaws → (first : Option Suspended) (ram : ℕ → ℕ) → AreBytes ram → (at size : ℕ) → at < 65536
+    → IsSize size → (cells : List Cell)
     → Each (Holds first ram) cells → HoldsOfWord first (put_together cells at size) (number_at ram at size)
 together sets bits first ram bytes at size below (inl one) cells h =
     subst (λ (s : ℕ). HoldsOfWord first (put_together cells at s) (number_at ram at s)) (sym one)
@@ -130,7 +132,9 @@ pub each_holds : (first : Option Suspended) (ram : ℕ → ℕ) (lo hi from : �
 each_holds first ram lo hi from cells are h = each_of_both first ram lo hi cells (each_cell lo hi from cells are)
     (each_from (λ cell. HoldsOfWord first cell.word (number_at ram cell.place cell.size)) cells h.1)
 
-pub read_holds : SetLaws → BitLaws → (first : Option Suspended) (ram : ℕ → ℕ) (lo hi from : ℕ) (cells : List Cell) (at size : ℕ) → at < 65536 → IsSize size
+pub read_holds : SetLaws → BitLaws
+    → (first : Option Suspended) (ram : ℕ → ℕ) (lo hi from : ℕ) (cells : List Cell) (at size : ℕ) → at < 65536
+    → IsSize size
     → AreCells lo hi from cells → StandsUnder first cells ram → HoldsOfWord first (read cells at size) (number_at ram at size)
 unfolding read
 read_holds sets bits first ram lo hi from cells at size below is are h =

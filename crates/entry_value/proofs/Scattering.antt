@@ -58,9 +58,11 @@ not_beside lo hi size address at cell below is low h apart ram v other =
 
 -- ---- a write at one of them
 
-joined_stands : SetLaws → (first : Option Suspended) (ram : ℕ → ℕ) → AreBytes ram → (lo hi size address v : ℕ) (at : Form) (word : Word) (cell : Cell)
+joined_stands : SetLaws → (first : Option Suspended) (ram : ℕ → ℕ) → AreBytes ram
+    → (lo hi size address v : ℕ) (at : Form) (word : Word) (cell : Cell)
     → hi < 65536 → IsCell lo hi cell
-    → address < 65536 → IsSize size → (size ≡ 1 → v < 256) → Has 65536 at address → IsNormal 65536 word.set → HoldsOfWord first word v → StandsAt first ram cell
+    → address < 65536 → IsSize size → (size ≡ 1 → v < 256) → Has 65536 at address → IsNormal 65536 word.set
+    → HoldsOfWord first word v → StandsAt first ram cell
     → meets_beside at size cell ≡ false → cell.size ≡ size
     → HoldsOfWord first (word_join cell.word word) (number_at (written ram address size v) cell.place cell.size)
 joined_stands sets first ram bytes lo hi size address v at word cell below is low its small h normal holds stands apart same =
@@ -91,9 +93,11 @@ of_behind P at size word cell kept_one joined = elim (cases_Bool (meets_beside a
   ])
 ]
 
-behind_stands : SetLaws → (first : Option Suspended) (ram : ℕ → ℕ) → AreBytes ram → (lo hi size address v : ℕ) (at : Form) (word : Word) → hi < 65536
+behind_stands : SetLaws → (first : Option Suspended) (ram : ℕ → ℕ) → AreBytes ram
+    → (lo hi size address v : ℕ) (at : Form) (word : Word) → hi < 65536
     → address < 65536 → IsSize size → (size ≡ 1 → v < 256) → Has 65536 at address → IsNormal 65536 word.set → HoldsOfWord first word v
-    → (cell : Cell) → StandsAt first ram cell × IsCell lo hi cell → OfSome (StandsAt first (written ram address size v)) (cell_behind at size word cell)
+    → (cell : Cell) → StandsAt first ram cell × IsCell lo hi cell
+    → OfSome (StandsAt first (written ram address size v)) (cell_behind at size word cell)
 behind_stands sets first ram bytes lo hi size address v at word below low its small h normal holds cell old = of_behind (StandsAt first (written ram address size v)) at size word cell
     (λ apart other. subst (λ (n : ℕ). HoldsOfWord first cell.word n)
     (sym (not_beside lo hi size address at cell below old.1 low h apart ram v (no_address at cell.place address h other))) old.0)
@@ -121,7 +125,8 @@ several_covers sets first ram from size address v map at word below are addresse
 
 -- ---- its form
 
-behind_form : SetLaws → (lo hi size : ℕ) (at : Form) (word : Word) → IsNormal 65536 word.set → (size ≡ 1 → (n : ℕ) → Has 65536 word.set n → n < 256)
+behind_form : SetLaws → (lo hi size : ℕ) (at : Form) (word : Word) → IsNormal 65536 word.set
+    → (size ≡ 1 → (n : ℕ) → Has 65536 word.set n → n < 256)
     → (cell : Cell) → IsCell lo hi cell → OfSome (IsAlike lo hi cell) (cell_behind at size word cell)
 behind_form sets lo hi size at word normal byte cell is = of_behind (IsAlike lo hi cell) at size word cell
     (λ apart other. (is, refl, refl))
@@ -139,7 +144,8 @@ behind_form sets lo hi size at word normal byte cell is = of_behind (IsAlike lo 
       sym same,
     ))
 
-pub several_form : SetLaws → (from size : ℕ) (map : CellMap) (at : Form) (word : Word) → AreCells map.lo map.hi from map.cells → IsNormal 65536 word.set
+pub several_form : SetLaws → (from size : ℕ) (map : CellMap) (at : Form) (word : Word)
+    → AreCells map.lo map.hi from map.cells → IsNormal 65536 word.set
     → (size ≡ 1 → (n : ℕ) → Has 65536 word.set n → n < 256) → AreCells map.lo map.hi from (write_several map at size word).cells
 unfolding write_several
 several_form sets from size map at word are normal byte = kept_form map.lo map.hi from (cell_behind at size word) map.cells (behind_form sets map.lo map.hi size at word normal byte) are

@@ -36,7 +36,8 @@ small_number ram bytes place size one = subst (λ (s : ℕ). number_at ram place
 abbrev IsNormalWord : Word → Type 0
 IsNormalWord word = IsNormal 65536 word.set
 
-normal_found : (lo hi from : ℕ) (cells : List Cell) → AreCells lo hi from cells → (place size : ℕ) → OfSome IsNormalWord (cell_at cells place size)
+normal_found : (lo hi from : ℕ) (cells : List Cell) → AreCells lo hi from cells → (place size : ℕ)
+    → OfSome IsNormalWord (cell_at cells place size)
 normal_found lo hi from cells are place size = found_at (λ p s word. IsNormalWord word) cells place size
     (each_then (IsCell lo hi) (λ cell. IsNormalWord cell.word) cells (λ cell is. is.normal) (each_cell lo hi from cells are))
 
@@ -60,7 +61,8 @@ new_stands first ram bytes f lo hi new held cell covers is = of_both (StandsAt f
     (found_at (λ p s word. IsNormalWord word × HoldsOfWord first word (number_at ram p s)) new cell.place cell.size
     (each_then (Holds first ram) (λ c. IsNormalWord c.word × HoldsOfWord first c.word (number_at ram c.place c.size)) new (λ c h. (h.normal, h.holds)) held)))
 
-form_stays : (f : Word → Word → Word) (lo hi low high start : ℕ) (new : List Cell) → AreCells low high start new → (cell : Cell) → Forms cell.size f
+form_stays : (f : Word → Word → Word) (lo hi low high start : ℕ) (new : List Cell) → AreCells low high start new
+    → (cell : Cell) → Forms cell.size f
     → IsCell lo hi cell
     → OfSome (IsAlike lo hi cell) (with_both f new cell)
 form_stays f lo hi low high start new are cell forms is = of_both (IsAlike lo hi cell) f cell (cell_at new cell.place cell.size)
@@ -84,12 +86,15 @@ form_stays f lo hi low high start new are cell forms is = of_both (IsAlike lo hi
 
 -- ---- what stands under what is made of each cell
 
-kept_stand : (first : Option Suspended) (ram : ℕ → ℕ) (lo hi from : ℕ) (f : Cell → Option Cell) (held : List Cell) → AreCells lo hi from held
-    → ((cell : Cell) → Holds first ram cell → OfSome (StandsAt first ram) (f cell)) → StandsUnder first held ram → StandsUnder first (kept f held) ram
+kept_stand : (first : Option Suspended) (ram : ℕ → ℕ) (lo hi from : ℕ) (f : Cell → Option Cell) (held : List Cell)
+    → AreCells lo hi from held
+    → ((cell : Cell) → Holds first ram cell → OfSome (StandsAt first ram) (f cell)) → StandsUnder first held ram
+    → StandsUnder first (kept f held) ram
 kept_stand first ram lo hi from f held are step h =
     (h.0, each_in (StandsAt first ram) (kept f held) (each_kept (Holds first ram) (StandsAt first ram) f held step (each_holds first ram lo hi from held are h)))
 
-made_stand : (first : Option Suspended) (ram : ℕ → ℕ) (lo hi from : ℕ) (f : Cell → Option Cell) (held : List Cell) → AreCells lo hi from held → AreBytes ram
+made_stand : (first : Option Suspended) (ram : ℕ → ℕ) (lo hi from : ℕ) (f : Cell → Option Cell) (held : List Cell)
+    → AreCells lo hi from held → AreBytes ram
     → ((cell : Cell) → IsCell lo hi cell → OfSome (StandsAt first ram) (f cell)) → StandsUnder first (kept f held) ram
 made_stand first ram lo hi from f held are bytes step =
     (bytes, each_in (StandsAt first ram) (kept f held) (each_kept (IsCell lo hi) (StandsAt first ram) f held step (each_cell lo hi from held are)))
@@ -129,7 +134,8 @@ of_size P marks new cell byte word = elim (cases_Bool (cell.size == 1)) [
 ]
 
 pub widen_covers_held : SetLaws → BitLaws
-    → (first : Option Suspended) (ram : ℕ → ℕ) (lo hi from low high start : ℕ) (held new : List Cell) (marks : List ℕ) → AreCells lo hi from held
+    → (first : Option Suspended) (ram : ℕ → ℕ) (lo hi from low high start : ℕ) (held new : List Cell) (marks : List ℕ)
+    → AreCells lo hi from held
     → AreCells low high start new
     → All (λ mark. mark < 65536) marks → StandsUnder first held ram → StandsUnder first (widen_cells held new marks) ram
 unfolding widen_cells
@@ -140,7 +146,8 @@ widen_covers_held sets bits first ram lo hi from low high start held new marks a
     h
 
 pub widen_covers_new : SetLaws → BitLaws
-    → (first : Option Suspended) (ram : ℕ → ℕ) (lo hi from low high start : ℕ) (held new : List Cell) (marks : List ℕ) → AreCells lo hi from held
+    → (first : Option Suspended) (ram : ℕ → ℕ) (lo hi from low high start : ℕ) (held new : List Cell) (marks : List ℕ)
+    → AreCells lo hi from held
     → AreCells low high start new
     → All (λ mark. mark < 65536) marks → StandsUnder first new ram → StandsUnder first (widen_cells held new marks) ram
 unfolding widen_cells
@@ -168,7 +175,8 @@ found_within : SetLaws → (first : Option Suspended) (v : ℕ) (found : Option 
 found_within sets first v None held within h = absurd (cc)
 found_within sets first v (Some new) held within h = within_holds sets 16 first v (of_word new) (of_word held) within h
 
-each_within : SetLaws → (first : Option Suspended) (ram : ℕ → ℕ) (new held : List Cell) → are_within new held ≡ true → Each (StandsAt first ram) new
+each_within : SetLaws → (first : Option Suspended) (ram : ℕ → ℕ) (new held : List Cell) → are_within new held ≡ true
+    → Each (StandsAt first ram) new
     → Each (StandsAt first ram) held
 each_within sets first ram new [] within h = tt
 each_within sets first ram new (cell ∷ cells) within h =
@@ -178,7 +186,8 @@ each_within sets first ram new (cell ∷ cells) within h =
       each_within sets first ram new cells parts.1 h,
     )
 
-pub within_covers : SetLaws → (first : Option Suspended) (ram : ℕ → ℕ) (new held : List Cell) → are_within new held ≡ true → StandsUnder first new ram
+pub within_covers : SetLaws → (first : Option Suspended) (ram : ℕ → ℕ) (new held : List Cell)
+    → are_within new held ≡ true → StandsUnder first new ram
     → StandsUnder first held ram
 within_covers sets first ram new held within h =
     (h.0, each_in (StandsAt first ram) held (each_within sets first ram new held within (each_from (StandsAt first ram) new h.1)))

@@ -42,7 +42,8 @@ common_second first (Some a) (Some b) v h = elim (cases_Bool (is_same_entry a b)
   | inr other ↦ rw other tt
 ]
 
-pub entry_within : (first : Option Suspended) (a b : Option Entry) (v : ℕ) → is_entry_within a b ≡ true → IsFromEntry first a v → IsFromEntry first b v
+pub entry_within : (first : Option Suspended) (a b : Option Entry) (v : ℕ) → is_entry_within a b ≡ true
+    → IsFromEntry first a v → IsFromEntry first b v
 entry_within first a None v within h = tt
 entry_within first None (Some b) v within h = absurd (cc)
 entry_within first (Some a) (Some b) v within h = subst (λ (entry : Entry). IsFromEntry first (Some entry) v) (same_entry a b within) h
@@ -57,17 +58,20 @@ pub join_holds_second : SetLaws → (width : ℕ) (first : Option Suspended) (v 
     → HoldsOf width first b v → HoldsOf width first (value_joined width a b) v
 join_holds_second sets width first v a b n k h = (sets.join_second (2 ^ width) a.set b.set n k v h.0, common_second first a.entry b.entry v h.1)
 
-pub widen_holds_held : SetLaws → (width : ℕ) (first : Option Suspended) (v : ℕ) (a b : Value) (marks : List ℕ) → IsFormed width a → IsFormed width b
+pub widen_holds_held : SetLaws → (width : ℕ) (first : Option Suspended) (v : ℕ) (a b : Value) (marks : List ℕ)
+    → IsFormed width a → IsFormed width b
     → AreMarks (2 ^ width) marks → HoldsOf width first a v → HoldsOf width first (value_widened width a b marks) v
 widen_holds_held sets width first v a b marks n k below h =
     (sets.widen_held (2 ^ width) a.set b.set marks n k below v h.0, common_first first a.entry b.entry v h.1)
 
-pub widen_holds_new : SetLaws → (width : ℕ) (first : Option Suspended) (v : ℕ) (a b : Value) (marks : List ℕ) → IsFormed width a → IsFormed width b
+pub widen_holds_new : SetLaws → (width : ℕ) (first : Option Suspended) (v : ℕ) (a b : Value) (marks : List ℕ)
+    → IsFormed width a → IsFormed width b
     → AreMarks (2 ^ width) marks → HoldsOf width first b v → HoldsOf width first (value_widened width a b marks) v
 widen_holds_new sets width first v a b marks n k below h =
     (sets.widen_new (2 ^ width) a.set b.set marks n k below v h.0, common_second first a.entry b.entry v h.1)
 
-pub within_holds : SetLaws → (width : ℕ) (first : Option Suspended) (v : ℕ) (a b : Value) → is_value_within width a b ≡ true → HoldsOf width first a v
+pub within_holds : SetLaws → (width : ℕ) (first : Option Suspended) (v : ℕ) (a b : Value)
+    → is_value_within width a b ≡ true → HoldsOf width first a v
     → HoldsOf width first b v
 within_holds sets width first v a b within h =
     let parts = and_parts (is_within (2 ^ width) a.set b.set) (is_entry_within a.entry b.entry) within in
@@ -77,8 +81,10 @@ within_holds sets width first v a b within h =
 
 -- what holds of either of two words of a size holds of what is made of them
 pub record Covers (first : Option Suspended) (size : ℕ) (f : Word → Word → Word) : Type 0 where
-  pub one : (a b : Word) (v : ℕ) → IsNormal 65536 a.set → IsNormal 65536 b.set → (size ≡ 1 → v < 256) → HoldsOfWord first a v → HoldsOfWord first (f a b) v
-  pub other : (a b : Word) (v : ℕ) → IsNormal 65536 a.set → IsNormal 65536 b.set → (size ≡ 1 → v < 256) → HoldsOfWord first b v → HoldsOfWord first (f a b) v
+  pub one : (a b : Word) (v : ℕ) → IsNormal 65536 a.set → IsNormal 65536 b.set → (size ≡ 1 → v < 256)
+      → HoldsOfWord first a v → HoldsOfWord first (f a b) v
+  pub other : (a b : Word) (v : ℕ) → IsNormal 65536 a.set → IsNormal 65536 b.set → (size ≡ 1 → v < 256)
+      → HoldsOfWord first b v → HoldsOfWord first (f a b) v
 
 pub join_covers : SetLaws → (first : Option Suspended) (size : ℕ) → Covers first size word_join
 join_covers sets first size = record {
@@ -117,7 +123,8 @@ put_back sets bits low v normal h =
 pub low_has : BitLaws → (set : Form) (v : ℕ) → IsNormal 65536 set → v < 256 → Has 65536 set v → Has 256 (low_set set) v
 low_has bits set v normal small h = subst (λ (n : ℕ). Has 256 (low_set set) n) (byte_alone v small) (bits.low v set normal h)
 
-widened_normal : SetLaws → BitLaws → (held new : Form) (marks : List ℕ) → IsNormal 65536 held → IsNormal 65536 new → IsNormal 256 (widened_low held new marks)
+widened_normal : SetLaws → BitLaws → (held new : Form) (marks : List ℕ) → IsNormal 65536 held → IsNormal 65536 new
+    → IsNormal 256 (widened_low held new marks)
 widened_normal sets bits held new marks n k =
     sets.widen_normal 256 (low_set held) (low_set new) (filter (λ mark. nat_lt mark 256) marks) (bits.low_normal held n) (bits.low_normal new k) (all_low marks)
 
@@ -131,7 +138,8 @@ byte_held sets bits held new marks v n k small h = elim (cases_Bool (is_within 6
       v (low_has bits held.set v n small h)))
 ]
 
-pub byte_new : SetLaws → BitLaws → (held new : Word) (marks : List ℕ) (v : ℕ) → IsNormal 65536 held.set → IsNormal 65536 new.set → v < 256 → Has 65536 new.set v
+pub byte_new : SetLaws → BitLaws → (held new : Word) (marks : List ℕ) (v : ℕ) → IsNormal 65536 held.set
+    → IsNormal 65536 new.set → v < 256 → Has 65536 new.set v
     → Has 65536 (byte_widened held new marks).set v
 byte_new sets bits held new marks v n k small h = elim (cases_Bool (is_within 65536 new.set held.set)) [
   | inl within ↦ rw within ((sets.tested 65536 new.set held.set).0 within v h)
@@ -165,7 +173,8 @@ join_forms sets size = record {
 different : (size : ℕ) → (size ≡ 1 → ⊥) → {A : Type 0} → size ≡ 1 → A
 different size h e = absurd (h e)
 
-pub widen_forms : SetLaws → (size : ℕ) (marks : List ℕ) → (size ≡ 1 → ⊥) → All (λ mark. mark < 65536) marks → Forms size (λ held new. word_widen held new marks)
+pub widen_forms : SetLaws → (size : ℕ) (marks : List ℕ) → (size ≡ 1 → ⊥) → All (λ mark. mark < 65536) marks
+    → Forms size (λ held new. word_widen held new marks)
 widen_forms sets size marks wide below = record {
   normal = λ a b n k. sets.widen_normal 65536 a.set b.set marks n k below;
   byte = λ a b n k one low other v h. absurd (wide one);

@@ -20,7 +20,8 @@ abbrev IsApartFrom : (place size at : ℕ) → Type 0
 IsApartFrom place size at = (place ≡ at → ⊥) × (size ≡ 2 → (place + 1) % 65536 ≡ at → ⊥)
 
 -- the number at a place stays where the bytes that are written aren't its own
-pub stays : (ram : ℕ → ℕ) (at access v place size : ℕ) → IsSize size → IsApartFrom place size at → (access ≡ 2 → IsApartFrom place size ((at + 1) % 65536))
+pub stays : (ram : ℕ → ℕ) (at access v place size : ℕ) → IsSize size → IsApartFrom place size at
+    → (access ≡ 2 → IsApartFrom place size ((at + 1) % 65536))
     → number_at (written ram at access v) place size ≡ number_at ram place size
 stays ram at access v place size is first second = same_number (written ram at access v) ram place size is
     (written-beyond ram at access v place first.0 (λ two. (second two).0))
@@ -72,7 +73,8 @@ still_stands first ram lo hi at size v below cell h =
 pub one_covers : SetLaws → (first : Option Suspended) (ram : ℕ → ℕ) (from at size v : ℕ) (map : CellMap) (word : Word) → map.hi < 65536
     → AreCells map.lo map.hi from map.cells
     → at < 65536 → IsSize size → IsNormal 65536 word.set → (size ≡ 1 → (n : ℕ) → Has 65536 word.set n → n < 256)
-    → StandsUnder first map.cells ram → HoldsOfWord first word v → StandsUnder first (write_one map at size word).cells (written ram at size v)
+    → StandsUnder first map.cells ram → HoldsOfWord first word v
+    → StandsUnder first (write_one map at size word).cells (written ram at size v)
 unfolding write_one
 one_covers sets first ram from at size v map word below are low is normal byte stands holds =
     let cell : Cell = record { place = at; size = size; word = word } in
@@ -91,11 +93,13 @@ one_covers sets first ram from at size v map word below are low is normal byte s
 abbrev AreApart : Cell → Cell → Type 0
 AreApart cell other = (other.place + other.size ≤ cell.place) ⊎ (cell.place + cell.size ≤ other.place)
 
-behind_it : (place size other other_size : ℕ) → 0 < other_size → place < other → (other + other_size ≤ place) ⊎ (place + size ≤ other) → place + size ≤ other
+behind_it : (place size other other_size : ℕ) → 0 < other_size → place < other
+    → (other + other_size ≤ place) ⊎ (place + size ≤ other) → place + size ≤ other
 behind_it place size other other_size some h (inl k) = absurd (omega arith)
 behind_it place size other other_size some h (inr k) = k
 
-before_it : (place size other other_size : ℕ) → 0 < size → other ≤ place → (other + other_size ≤ place) ⊎ (place + size ≤ other) → other + other_size ≤ place
+before_it : (place size other other_size : ℕ) → 0 < size → other ≤ place
+    → (other + other_size ≤ place) ⊎ (place + size ≤ other) → other + other_size ≤ place
 before_it place size other other_size some h (inl k) = k
 before_it place size other other_size some h (inr k) = absurd (omega arith)
 
@@ -163,7 +167,8 @@ with_form lo hi from at size word cells below first is normal byte are =
           (each_filter (IsCell lo hi) (λ c. not (meets at size c)) cells (each_cell lo hi from cells are))))
     ]
 
-pub one_form : (from at size : ℕ) (map : CellMap) (word : Word) → map.hi < 65536 → from ≤ map.lo → AreCells map.lo map.hi from map.cells → IsSize size
+pub one_form : (from at size : ℕ) (map : CellMap) (word : Word) → map.hi < 65536 → from ≤ map.lo
+    → AreCells map.lo map.hi from map.cells → IsSize size
     → IsNormal 65536 word.set
     → (size ≡ 1 → (n : ℕ) → Has 65536 word.set n → n < 256) → AreCells map.lo map.hi from (write_one map at size word).cells
 unfolding write_one

@@ -42,11 +42,13 @@ each_insert P cell (c ∷ cells) h k = elim (cases_Bool (nat_lt cell.place c.pla
   | inr behind ↦ rw behind (k.0, each_insert P cell cells h k.1)
 ]
 
-pub each_map : (P Q : Cell → Type 0) (f : Cell → Cell) (cells : List Cell) → ((cell : Cell) → P cell → Q (f cell)) → Each P cells → Each Q (map f cells)
+pub each_map : (P Q : Cell → Type 0) (f : Cell → Cell) (cells : List Cell) → ((cell : Cell) → P cell → Q (f cell))
+    → Each P cells → Each Q (map f cells)
 each_map P Q f [] step h = tt
 each_map P Q f (cell ∷ cells) step h = (step cell h.0, each_map P Q f cells step h.1)
 
-pub each_filter : (P : Cell → Type 0) (test : Cell → Bool) (cells : List Cell) → Each P cells → Each (λ cell. P cell × (test cell ≡ true)) (filter test cells)
+pub each_filter : (P : Cell → Type 0) (test : Cell → Bool) (cells : List Cell) → Each P cells
+    → Each (λ cell. P cell × (test cell ≡ true)) (filter test cells)
 each_filter P test [] h = tt
 each_filter P test (cell ∷ cells) h = elim (cases_Bool (test cell)) [
   | inl passes ↦ rw passes ((h.0, passes), each_filter P test cells h.1)
@@ -57,7 +59,8 @@ each_with : (P : Cell → Type 0) (found : Option Cell) (cells : List Cell) → 
 each_with P None cells h k = k
 each_with P (Some cell) cells h k = (h, k)
 
-pub each_kept : (P Q : Cell → Type 0) (f : Cell → Option Cell) (cells : List Cell) → ((cell : Cell) → P cell → OfSome Q (f cell)) → Each P cells
+pub each_kept : (P Q : Cell → Type 0) (f : Cell → Option Cell) (cells : List Cell)
+    → ((cell : Cell) → P cell → OfSome Q (f cell)) → Each P cells
     → Each Q (kept f cells)
 each_kept P Q f [] step h = tt
 each_kept P Q f (cell ∷ cells) step h = each_with Q (f cell) (kept f cells) (step cell h.0) (each_kept P Q f cells step h.1)
@@ -66,7 +69,8 @@ pub each_cell : (lo hi from : ℕ) (cells : List Cell) → AreCells lo hi from c
 each_cell lo hi from [] h = tt
 each_cell lo hi from (cell ∷ cells) h = (h.0, each_cell lo hi (cell.place + cell.size) cells h.2)
 
-pub found_at : (P : (place size : ℕ) → Word → Type 0) (cells : List Cell) (place size : ℕ) → Each (λ cell. P cell.place cell.size cell.word) cells
+pub found_at : (P : (place size : ℕ) → Word → Type 0) (cells : List Cell) (place size : ℕ)
+    → Each (λ cell. P cell.place cell.size cell.word) cells
     → OfSome (P place size) (cell_at cells place size)
 found_at P [] place size h = tt
 found_at P (cell ∷ cells) place size h = elim (cases_Bool ((cell.place == place) && (cell.size == size))) [
@@ -82,7 +86,8 @@ cell_of lo hi from cells cell are there = each_in (IsCell lo hi) cells (each_cel
 abbrev MadeOf : (Cell → Option Cell) → List Cell → Cell → Type 0
 MadeOf f cells cell = (held : Cell) × Contains cells held × (f held ≡ Some cell)
 
-made_of : (f : Cell → Option Cell) (cells : List Cell) (held : Cell) (made : Option Cell) → Contains cells held → f held ≡ made → OfSome (MadeOf f cells) made
+made_of : (f : Cell → Option Cell) (cells : List Cell) (held : Cell) (made : Option Cell) → Contains cells held
+    → f held ≡ made → OfSome (MadeOf f cells) made
 made_of f cells held None there is = tt
 made_of f cells held (Some cell) there is = (held, there, is)
 
@@ -95,13 +100,15 @@ kept_from f cells cell =
 abbrev WrittenOr : (at size : ℕ) → Word → List Cell → Cell → Type 0
 WrittenOr at size word cells cell = (cell ≡ record { place = at; size = size; word = word }) ⊎ Contains cells cell
 
-pub each_with_cell : (P : Cell → Type 0) (lo hi : ℕ) (cell : Cell) (cells : List Cell) → P cell → Each P cells → Each P (with_cell lo hi cell cells)
+pub each_with_cell : (P : Cell → Type 0) (lo hi : ℕ) (cell : Cell) (cells : List Cell) → P cell → Each P cells
+    → Each P (with_cell lo hi cell cells)
 each_with_cell P lo hi cell cells h k = elim (cases_Bool (nat_lt cell.place lo || nat_lt hi (cell.place + cell.size - 1) || is_nothing cell.size cell.word)) [
   | inl drops ↦ rw drops k
   | inr stays ↦ rw stays (each_insert P cell cells h k)
 ]
 
-pub each_written : (P : Cell → Type 0) (map : CellMap) (cell : Cell) → P cell → Each P map.cells → Each P (write_one map cell.place cell.size cell.word).cells
+pub each_written : (P : Cell → Type 0) (map : CellMap) (cell : Cell) → P cell → Each P map.cells
+    → Each P (write_one map cell.place cell.size cell.word).cells
 unfolding write_one
 each_written P map cell h k =
     let test = λ (c : Cell). not (meets cell.place cell.size c) in
@@ -125,7 +132,8 @@ pub lowered : (lo hi from low : ℕ) (cells : List Cell) → low ≤ from → Ar
 lowered lo hi from low [] h are = tt
 lowered lo hi from low (cell ∷ cells) h are = (are.0, omega (arith, are.1), are.2)
 
-pub filtered_form : (lo hi from : ℕ) (test : Cell → Bool) (cells : List Cell) → AreCells lo hi from cells → AreCells lo hi from (filter test cells)
+pub filtered_form : (lo hi from : ℕ) (test : Cell → Bool) (cells : List Cell) → AreCells lo hi from cells
+    → AreCells lo hi from (filter test cells)
 filtered_form lo hi from test [] h = tt
 filtered_form lo hi from test (cell ∷ cells) h = elim (cases_Bool (test cell)) [
   | inl passes ↦ rw passes (h.0, h.1, filtered_form lo hi (cell.place + cell.size) test cells h.2)
@@ -152,7 +160,8 @@ pub kept_form : (lo hi from : ℕ) (f : Cell → Option Cell) (cells : List Cell
     → ((cell : Cell) → IsCell lo hi cell → OfSome (IsAlike lo hi cell) (f cell)) → AreCells lo hi from cells
     → AreCells lo hi from (kept f cells)
 kept_form lo hi from f [] step are = tt
-kept_form lo hi from f (cell ∷ cells) step are = alike_form lo hi from cell (f cell) (kept f cells) are.1 (step cell are.0) (kept_form lo hi (cell.place + cell.size) f cells step are.2)
+kept_form lo hi from f (cell ∷ cells) step are =
+    alike_form lo hi from cell (f cell) (kept f cells) are.1 (step cell are.0) (kept_form lo hi (cell.place + cell.size) f cells step are.2)
 
 -- ---- what stands in a RAM
 

@@ -27,7 +27,8 @@ pub record IsNext (lo hi from : ℕ) (cells : List Cell) (c : Cell) : Type 0 whe
   pub held : Contains cells c
   pub behind : from ≤ c.place
 
-pub next_is : (lo hi low from : ℕ) (cells : List Cell) (c : Cell) → AreCells lo hi low cells → next cells from ≡ Some c → IsNext lo hi from cells c
+pub next_is : (lo hi low from : ℕ) (cells : List Cell) (c : Cell) → AreCells lo hi low cells → next cells from ≡ Some c
+    → IsNext lo hi from cells c
 next_is lo hi low from [] c are is = absurd (cc)
 next_is lo hi low from (x ∷ xs) c are is = elim (cases_Bool (nat_lt x.place from)) [
   | inl before ↦

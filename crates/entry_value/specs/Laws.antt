@@ -17,13 +17,16 @@ use Rattle.entry_value.specs.Words.{Suspended, IsFromEntry, HoldsOfWord, HoldsOf
 -- Relations of numbers to places of the suspended state: what came from a place came from it, behind a mask, by the masked
 -- relation; a relation says what another one does that it is within, and what either says their common one says.
 pub record EntryLaws : Type 0 where
-  pub holds : (first : Option Suspended) (v : ℕ) (a b : Option Entry) → is_entry_within a b ≡ true → IsFromEntry first a v → IsFromEntry first b v
+  pub holds : (first : Option Suspended) (v : ℕ) (a b : Option Entry) → is_entry_within a b ≡ true
+      → IsFromEntry first a v → IsFromEntry first b v
   pub and : (first : Option Suspended) (entry : Option Entry) (v m : ℕ) → IsFromEntry first entry v
       → IsFromEntry first (option_map (entry_and m) entry) (bit_and v m)
   pub or : (first : Option Suspended) (entry : Option Entry) (v m : ℕ) → IsFromEntry first entry v
       → IsFromEntry first (option_map (entry_or m) entry) (bit_or v m)
-  pub common_first : (first : Option Suspended) (a b : Option Entry) (v : ℕ) → IsFromEntry first a v → IsFromEntry first (common_entry a b) v
-  pub common_second : (first : Option Suspended) (a b : Option Entry) (v : ℕ) → IsFromEntry first b v → IsFromEntry first (common_entry a b) v
+  pub common_first : (first : Option Suspended) (a b : Option Entry) (v : ℕ) → IsFromEntry first a v
+      → IsFromEntry first (common_entry a b) v
+  pub common_second : (first : Option Suspended) (a b : Option Entry) (v : ℕ) → IsFromEntry first b v
+      → IsFromEntry first (common_entry a b) v
   pub common_is : (a b : Option Entry) → (common_entry a b ≡ None) ⊎ (common_entry a b ≡ a)
   -- their order
   pub itself : (a : Option Entry) → is_entry_within a a ≡ true
@@ -35,17 +38,22 @@ pub record EntryLaws : Type 0 where
 -- Of values of a width: what holds of a number under a suspended state holds of it behind joins, widenings and greater sets, and
 -- of the number behind a mask where it has passed that mask. Sets stay in normal form, and `within` is an order.
 pub record SizedLaws {A : Type 0} (width : ℕ) (of : A → Value) : Type 0 where
-  pub holds : (first : Option Suspended) (v : ℕ) (a b : A) → is_value_within width (of a) (of b) ≡ true → HoldsOf width first (of a) v → HoldsOf width first (of b) v
+  pub holds : (first : Option Suspended) (v : ℕ) (a b : A) → is_value_within width (of a) (of b) ≡ true
+      → HoldsOf width first (of a) v → HoldsOf width first (of b) v
   pub join_normal : (a b : A) → IsFormed width (of a) → IsFormed width (of b) → IsFormed width (value_joined width (of a) (of b))
-  pub join_holds_first : (first : Option Suspended) (v : ℕ) (a b : A) → IsFormed width (of a) → IsFormed width (of b) → HoldsOf width first (of a) v
+  pub join_holds_first : (first : Option Suspended) (v : ℕ) (a b : A) → IsFormed width (of a) → IsFormed width (of b)
+      → HoldsOf width first (of a) v
       → HoldsOf width first (value_joined width (of a) (of b)) v
-  pub join_holds_second : (first : Option Suspended) (v : ℕ) (a b : A) → IsFormed width (of a) → IsFormed width (of b) → HoldsOf width first (of b) v
+  pub join_holds_second : (first : Option Suspended) (v : ℕ) (a b : A) → IsFormed width (of a) → IsFormed width (of b)
+      → HoldsOf width first (of b) v
       → HoldsOf width first (value_joined width (of a) (of b)) v
   pub widen_normal : (held new : A) (marks : List ℕ) → IsFormed width (of held) → IsFormed width (of new) → AreMarks (2 ^ width) marks
       → IsFormed width (value_widened width (of held) (of new) marks)
-  pub widen_holds_held : (first : Option Suspended) (v : ℕ) (held new : A) (marks : List ℕ) → IsFormed width (of held) → IsFormed width (of new)
+  pub widen_holds_held : (first : Option Suspended) (v : ℕ) (held new : A) (marks : List ℕ) → IsFormed width (of held)
+      → IsFormed width (of new)
       → AreMarks (2 ^ width) marks → HoldsOf width first (of held) v → HoldsOf width first (value_widened width (of held) (of new) marks) v
-  pub widen_holds_new : (first : Option Suspended) (v : ℕ) (held new : A) (marks : List ℕ) → IsFormed width (of held) → IsFormed width (of new)
+  pub widen_holds_new : (first : Option Suspended) (v : ℕ) (held new : A) (marks : List ℕ) → IsFormed width (of held)
+      → IsFormed width (of new)
       → AreMarks (2 ^ width) marks → HoldsOf width first (of new) v → HoldsOf width first (value_widened width (of held) (of new) marks) v
   -- masks
   pub and_normal : (m : ℕ) (a : A) → m < 2 ^ width → IsFormed width (of a) → IsFormed width (value_and width m (of a))
@@ -56,9 +64,12 @@ pub record SizedLaws {A : Type 0} (width : ℕ) (of : A → Value) : Type 0 wher
       → HoldsOf width first (value_or width m (of a)) (bit_or v m)
   -- their order
   pub itself : (a : A) → is_value_within width (of a) (of a) ≡ true
-  pub along : (a b c : A) → is_value_within width (of a) (of b) ≡ true → is_value_within width (of b) (of c) ≡ true → is_value_within width (of a) (of c) ≡ true
-  pub join_first : (a b : A) → IsFormed width (of a) → IsFormed width (of b) → is_value_within width (of a) (value_joined width (of a) (of b)) ≡ true
-  pub join_second : (a b : A) → IsFormed width (of a) → IsFormed width (of b) → is_value_within width (of b) (value_joined width (of a) (of b)) ≡ true
+  pub along : (a b c : A) → is_value_within width (of a) (of b) ≡ true → is_value_within width (of b) (of c) ≡ true
+      → is_value_within width (of a) (of c) ≡ true
+  pub join_first : (a b : A) → IsFormed width (of a) → IsFormed width (of b)
+      → is_value_within width (of a) (value_joined width (of a) (of b)) ≡ true
+  pub join_second : (a b : A) → IsFormed width (of a) → IsFormed width (of b)
+      → is_value_within width (of b) (value_joined width (of a) (of b)) ≡ true
   pub widen_held : (held new : A) (marks : List ℕ) → IsFormed width (of held) → IsFormed width (of new) → AreMarks (2 ^ width) marks
       → is_value_within width (of held) (value_widened width (of held) (of new) marks) ≡ true
   pub widen_new : (held new : A) (marks : List ℕ) → IsFormed width (of held) → IsFormed width (of new) → AreMarks (2 ^ width) marks
@@ -93,7 +104,8 @@ pub record CellLaws : Type 0 where
       → (size ≡ 1) ⊎ (size ≡ 2)
       → StandsUnder first list ram → HoldsOfWord first (cells.read list at size) (number_at ram at size)
   pub read_normal : (lo hi from at size : ℕ) (list : List Cell) → AreCells lo hi from list → IsNormal 65536 (cells.read list at size).set
-  pub read_byte : (lo hi from at size : ℕ) (list : List Cell) → AreCells lo hi from list → size ≡ 1 → IsBelow 65536 256 (cells.read list at size).set
+  pub read_byte : (lo hi from at size : ℕ) (list : List Cell) → AreCells lo hi from list → size ≡ 1
+      → IsBelow 65536 256 (cells.read list at size).set
   -- words of which each is a byte, as a write of one byte takes them
   pub byte_single : (n v : ℕ) → n < 256 → Has 65536 (single n) v → v < 256
   pub byte_any : (v : ℕ) → Has 65536 (cells.any_of 1) v → v < 256
@@ -105,7 +117,8 @@ pub record CellLaws : Type 0 where
   pub write : (first : Option Suspended) (ram : ℕ → ℕ) (from at size v : ℕ) (map : CellMap) (word : Word)
       → map.hi < 65536 → AreCells map.lo map.hi from map.cells → at < 65536 → (size ≡ 1) ⊎ (size ≡ 2)
       → IsNormal 65536 word.set → (size ≡ 1 → IsBelow 65536 256 word.set)
-      → StandsUnder first map.cells ram → HoldsOfWord first word v → StandsUnder first (write_one map at size word).cells (written ram at size v)
+      → StandsUnder first map.cells ram → HoldsOfWord first word v
+      → StandsUnder first (write_one map at size word).cells (written ram at size v)
   pub write_form : (from at size : ℕ) (map : CellMap) (word : Word) → map.hi < 65536 → from ≤ map.lo → AreCells map.lo map.hi from map.cells
       → (size ≡ 1) ⊎ (size ≡ 2)
       → IsNormal 65536 word.set → (size ≡ 1 → IsBelow 65536 256 word.set) → AreCells map.lo map.hi from (write_one map at size word).cells
@@ -117,7 +130,8 @@ pub record CellLaws : Type 0 where
       → IsNormal 65536 word.set → (size ≡ 1 → IsBelow 65536 256 word.set)
       → StandsUnder first map.cells ram → Has 65536 at address → HoldsOfWord first word v
       → StandsUnder first (write_any map at size word).cells (written ram address size v)
-  pub store_form : (from size : ℕ) (map : CellMap) (at : Form) (word : Word) → map.hi < 65536 → from ≤ map.lo → AreCells map.lo map.hi from map.cells
+  pub store_form : (from size : ℕ) (map : CellMap) (at : Form) (word : Word) → map.hi < 65536 → from ≤ map.lo
+      → AreCells map.lo map.hi from map.cells
       → (size ≡ 1) ⊎ (size ≡ 2)
       → IsNormal 65536 word.set → (size ≡ 1 → IsBelow 65536 256 word.set) → AreCells map.lo map.hi from (write_any map at size word).cells
   pub store_lo : (size : ℕ) (map : CellMap) (at : Form) (word : Word) → (write_any map at size word).lo ≡ map.lo
@@ -137,13 +151,16 @@ pub record CellLaws : Type 0 where
   -- joins and widened cells
   pub join_form : (lo hi from low high start : ℕ) (held new : List Cell) → AreCells lo hi from held → AreCells low high start new
       → AreCells lo hi from (join_cells held new)
-  pub join_stands_held : (first : Option Suspended) (ram : ℕ → ℕ) (lo hi from low high start : ℕ) (held new : List Cell) → AreCells lo hi from held
+  pub join_stands_held : (first : Option Suspended) (ram : ℕ → ℕ) (lo hi from low high start : ℕ) (held new : List Cell)
+      → AreCells lo hi from held
       → AreCells low high start new
       → StandsUnder first held ram → StandsUnder first (join_cells held new) ram
-  pub join_stands_new : (first : Option Suspended) (ram : ℕ → ℕ) (lo hi from low high start : ℕ) (held new : List Cell) → AreCells lo hi from held
+  pub join_stands_new : (first : Option Suspended) (ram : ℕ → ℕ) (lo hi from low high start : ℕ) (held new : List Cell)
+      → AreCells lo hi from held
       → AreCells low high start new
       → StandsUnder first new ram → StandsUnder first (join_cells held new) ram
-  pub widen_form : (lo hi from low high start : ℕ) (held new : List Cell) (marks : List ℕ) → AreCells lo hi from held → AreCells low high start new
+  pub widen_form : (lo hi from low high start : ℕ) (held new : List Cell) (marks : List ℕ) → AreCells lo hi from held
+      → AreCells low high start new
       → AreMarks 65536 marks → AreCells lo hi from (widen_cells held new marks)
   pub widen_stands_held : (first : Option Suspended) (ram : ℕ → ℕ) (lo hi from low high start : ℕ) (held new : List Cell) (marks : List ℕ)
       → AreCells lo hi from held → AreCells low high start new
@@ -158,7 +175,9 @@ pub record CellLaws : Type 0 where
       → are_within held (join_cells held new) ≡ true
   pub join_new : (lo hi from low high start : ℕ) (held new : List Cell) → AreCells lo hi from held → AreCells low high start new
       → are_within new (join_cells held new) ≡ true
-  pub widen_held : (lo hi from low high start : ℕ) (held new : List Cell) (marks : List ℕ) → AreCells lo hi from held → AreCells low high start new
+  pub widen_held : (lo hi from low high start : ℕ) (held new : List Cell) (marks : List ℕ) → AreCells lo hi from held
+      → AreCells low high start new
       → AreMarks 65536 marks → are_within held (widen_cells held new marks) ≡ true
-  pub widen_new : (lo hi from low high start : ℕ) (held new : List Cell) (marks : List ℕ) → AreCells lo hi from held → AreCells low high start new
+  pub widen_new : (lo hi from low high start : ℕ) (held new : List Cell) (marks : List ℕ) → AreCells lo hi from held
+      → AreCells low high start new
       → AreMarks 65536 marks → are_within new (widen_cells held new marks) ≡ true

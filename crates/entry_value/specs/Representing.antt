@@ -27,7 +27,8 @@ pub record IsRead (now : CellMap) (at size : ℕ) (word : Word) : Type 0 where
   pub byte : size ≡ 1 → IsBelow 65536 256 word.set
   pub holds : (first : Option Suspended) (ram : ℕ → ℕ) → StandsUnder first now.cells ram → HoldsOfWord first word (number_at ram at size)
 
-pub is_read : CellLaws → (held now : CellMap) (at size : ℕ) (word : Word) → IsSeen held now → at < 65536 → (size ≡ 1) ⊎ (size ≡ 2) → word ≡ read held.cells at size
+pub is_read : CellLaws → (held now : CellMap) (at size : ℕ) (word : Word) → IsSeen held now → at < 65536
+    → (size ≡ 1) ⊎ (size ≡ 2) → word ≡ read held.cells at size
     → IsRead now at size word
 is_read laws held now at size word seen below sized same = subst (λ (map : CellMap). IsRead map at size word) seen.is record {
   value = same;
@@ -50,7 +51,8 @@ pub record IsWritten (held now : CellMap) (at size : ℕ) (word : Word) (made : 
   pub covers : (first : Option Suspended) (ram : ℕ → ℕ) (v : ℕ) → StandsUnder first now.cells ram → HoldsOfWord first word v
       → StandsUnder first made (written ram at size v)
 
-pub is_written : CellLaws → (held now : CellMap) (at size : ℕ) (word : Word) (made : List Cell) → IsSeen held now → at < 65536 → CanWrite size word
+pub is_written : CellLaws → (held now : CellMap) (at size : ℕ) (word : Word) (made : List Cell) → IsSeen held now
+    → at < 65536 → CanWrite size word
     → made ≡ (write_one held at size word).cells → IsWritten held now at size word made
 unfolding write_one
 is_written laws held now at size word made seen below can same = subst (λ (map : CellMap). IsWritten held map at size word made) seen.is record {
@@ -64,10 +66,12 @@ is_written laws held now at size word made seen below can same = subst (λ (map 
 pub record IsScattered (held now : CellMap) (at : Form) (size : ℕ) (word : Word) (made : List Cell) : Type 0 where
   pub are : AreCells held.lo held.hi held.lo made
   pub value : with_cells held made ≡ write_any now at size word
-  pub covers : (first : Option Suspended) (ram : ℕ → ℕ) (address v : ℕ) → StandsUnder first now.cells ram → Has 65536 at address → HoldsOfWord first word v
+  pub covers : (first : Option Suspended) (ram : ℕ → ℕ) (address v : ℕ) → StandsUnder first now.cells ram
+      → Has 65536 at address → HoldsOfWord first word v
       → StandsUnder first made (written ram address size v)
 
-pub is_scattered : CellLaws → (held now : CellMap) (at : Form) (size : ℕ) (word : Word) (made : List Cell) → IsSeen held now → IsNormal 65536 at → CanWrite size word
+pub is_scattered : CellLaws → (held now : CellMap) (at : Form) (size : ℕ) (word : Word) (made : List Cell)
+    → IsSeen held now → IsNormal 65536 at → CanWrite size word
     → count_of 65536 at ≢ 1 → made ≡ (write_several held at size word).cells → IsScattered held now at size word made
 unfolding write_several
 is_scattered laws held now at size word made seen normal can several is =
@@ -84,10 +88,13 @@ is_scattered laws held now at size word made seen normal can several is =
 
 -- what is made of two lists of cells has the form of the first, and covers both
 pub record Unites (unite : List Cell → List Cell → List Cell) : Type 0 where
-  pub form : (lo hi from low high start : ℕ) (held new : List Cell) → AreCells lo hi from held → AreCells low high start new → AreCells lo hi from (unite held new)
-  pub own : (first : Option Suspended) (ram : ℕ → ℕ) (lo hi from low high start : ℕ) (held new : List Cell) → AreCells lo hi from held → AreCells low high start new
+  pub form : (lo hi from low high start : ℕ) (held new : List Cell) → AreCells lo hi from held
+      → AreCells low high start new → AreCells lo hi from (unite held new)
+  pub own : (first : Option Suspended) (ram : ℕ → ℕ) (lo hi from low high start : ℕ) (held new : List Cell)
+      → AreCells lo hi from held → AreCells low high start new
       → StandsUnder first held ram → StandsUnder first (unite held new) ram
-  pub others : (first : Option Suspended) (ram : ℕ → ℕ) (lo hi from low high start : ℕ) (held new : List Cell) → AreCells lo hi from held → AreCells low high start new
+  pub others : (first : Option Suspended) (ram : ℕ → ℕ) (lo hi from low high start : ℕ) (held new : List Cell)
+      → AreCells lo hi from held → AreCells low high start new
       → StandsUnder first new ram → StandsUnder first (unite held new) ram
 
 pub joins_unite : CellLaws → Unites join_cells
@@ -106,7 +113,8 @@ pub record IsUnited (unite : List Cell → List Cell → List Cell) (held now ot
   pub own : (first : Option Suspended) (ram : ℕ → ℕ) → StandsUnder first now.cells ram → StandsUnder first made ram
   pub others : (first : Option Suspended) (ram : ℕ → ℕ) → StandsUnder first other.cells ram → StandsUnder first made ram
 
-pub is_united : (unite : List Cell → List Cell → List Cell) → Unites unite → (held now new other : CellMap) (made : List Cell) → IsSeen held now → IsSeen new other
+pub is_united : (unite : List Cell → List Cell → List Cell) → Unites unite
+    → (held now new other : CellMap) (made : List Cell) → IsSeen held now → IsSeen new other
     → made ≡ unite held.cells new.cells → IsUnited unite held now other made
 is_united unite unites held now new other made seen others same =
     subst (λ (map : CellMap). IsUnited unite held map other made) seen.is (subst (λ (map : CellMap). IsUnited unite held held map made) others.is record {
@@ -120,7 +128,8 @@ is_united unite unites held now new other made seen others same =
 
 -- INCLUSION
 
-pub stands_within : CellLaws → (new now held other : CellMap) → new ≡ now → held ≡ other → are_within new.cells held.cells ≡ true → (first : Option Suspended) (ram : ℕ → ℕ)
+pub stands_within : CellLaws → (new now held other : CellMap) → new ≡ now → held ≡ other
+    → are_within new.cells held.cells ≡ true → (first : Option Suspended) (ram : ℕ → ℕ)
     → StandsUnder first now.cells ram → StandsUnder first other.cells ram
 stands_within laws new now held other is other_is within first ram h = subst (λ (map : CellMap). StandsUnder first map.cells ram) other_is
     (laws.holds first ram new.cells held.cells within (subst (λ (map : CellMap). StandsUnder first map.cells ram) (sym is) h))

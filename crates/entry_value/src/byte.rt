@@ -20,7 +20,8 @@ impl Byte {
     pub fn join(&self, other: &Byte) -> Byte
         ensures value { result ≡ words.byte_join self.now other.now }
         ensures own { (first : Option Suspended) (v : ℕ) → HoldsOfByte first self.now v → HoldsOfByte first result v }
-        ensures others { (first : Option Suspended) (v : ℕ) → HoldsOfByte first other.now v → HoldsOfByte first result v }
+        ensures others { (first : Option Suspended) (v : ℕ) → HoldsOfByte first other.now v
+            → HoldsOfByte first result v }
     {
         Byte {
             set: self.set.join(&other.set),
@@ -43,7 +44,8 @@ impl Byte {
     /// Whether the set is within the other one, and the other one's relation is this one's too.
     pub fn within(&self, other: &Byte) -> bool
         ensures value { result ≡ words.byte_within self.now other.now }
-        ensures holds { result ≡ true → (first : Option Suspended) (v : ℕ) → HoldsOfByte first self.now v → HoldsOfByte first other.now v }
+        ensures holds { result ≡ true → (first : Option Suspended) (v : ℕ) → HoldsOfByte first self.now v
+            → HoldsOfByte first other.now v }
     {
         self.set.within(&other.set) && is_entry_within(&self.entry, &other.entry)
     }
@@ -51,7 +53,8 @@ impl Byte {
     /// The byte behind an AND with a constant.
     pub fn mask_and(&self, m: u8) -> Byte
         ensures value { result ≡ words.byte_and m self.now }
-        ensures holds { (first : Option Suspended) (v : ℕ) → HoldsOfByte first self.now v → HoldsOfByte first result (bit_and v m) }
+        ensures holds { (first : Option Suspended) (v : ℕ) → HoldsOfByte first self.now v
+            → HoldsOfByte first result (bit_and v m) }
     {
         Byte {
             set: w8::and(&self.set, &Vs8::one(m)),
@@ -62,7 +65,8 @@ impl Byte {
     /// The byte behind an OR with a constant.
     pub fn mask_or(&self, m: u8) -> Byte
         ensures value { result ≡ words.byte_or m self.now }
-        ensures holds { (first : Option Suspended) (v : ℕ) → HoldsOfByte first self.now v → HoldsOfByte first result (bit_or v m) }
+        ensures holds { (first : Option Suspended) (v : ℕ) → HoldsOfByte first self.now v
+            → HoldsOfByte first result (bit_or v m) }
     {
         Byte {
             set: w8::or(&self.set, &Vs8::one(m)),

@@ -44,7 +44,8 @@ pub trait Cells: Drop {
         requires { (size ≡ 1) ⊎ (size ≡ 2) }
         ensures value { result ≡ the_cells.read (map self.now).cells at size }
         ensures byte { size ≡ 1 → (v : ℕ) → Has 65536 result.set v → v < 256 }
-        ensures holds { (first : Option Suspended) (ram : ℕ → ℕ) → StandsUnder first (map self.now).cells ram → HoldsOfWord first result (number_at ram at size) };
+        ensures holds { (first : Option Suspended) (ram : ℕ → ℕ) → StandsUnder first (map self.now).cells ram
+            → HoldsOfWord first result (number_at ram at size) };
 
     /// Writes a value at one address: the cells that have a byte of it go, and it gets a cell, where that lies whole in
     /// RAM and says something. A refusal leaves the cells as they were.
@@ -86,7 +87,8 @@ pub trait Cells: Drop {
     /// Whether each cell of the other ones is one of these, with a word that these are within.
     fn within(&self, other: &Self) -> bool
         ensures value { result ≡ the_cells.are_within (map self.now).cells (map other.now).cells }
-        ensures holds { result ≡ true → (first : Option Suspended) (ram : ℕ → ℕ) → StandsUnder first (map self.now).cells ram → StandsUnder first (map other.now).cells ram };
+        ensures holds { result ≡ true → (first : Option Suspended) (ram : ℕ → ℕ)
+            → StandsUnder first (map self.now).cells ram → StandsUnder first (map other.now).cells ram };
 
     /// Equal cells.
     fn copy(&self, alloc: Global) -> Result<Self, Memory>

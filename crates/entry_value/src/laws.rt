@@ -22,7 +22,8 @@ pub fn bytes_stay_bytes()
     ensures pair { (low : AForm) (v : ℕ) → IsNormal 256 low → Has 65536 (pair_set low (single 0)) v → v < 256 }
     ensures join { (a b : AForm) → IsNormal 65536 a → IsNormal 65536 b → ((n : ℕ) → Has 65536 a n → n < 256) → ((n : ℕ) → Has 65536 b n → n < 256)
         → (v : ℕ) → Has 65536 (join 65536 a b) v → v < 256 }
-    ensures widen_normal { (held new : AWord) (marks : List ℕ) → IsNormal 65536 held.set → IsNormal 65536 new.set → IsNormal 65536 (the_cells.byte_widened held new marks).set }
+    ensures widen_normal { (held new : AWord) (marks : List ℕ) → IsNormal 65536 held.set
+        → IsNormal 65536 new.set → IsNormal 65536 (the_cells.byte_widened held new marks).set }
     ensures widen { (held new : AWord) (marks : List ℕ) → IsNormal 65536 held.set → IsNormal 65536 new.set → ((n : ℕ) → Has 65536 held.set n → n < 256)
         → (v : ℕ) → Has 65536 (the_cells.byte_widened held new marks).set v → v < 256 }
 {

@@ -45,7 +45,8 @@ impl Entry {
     /// The relation behind an AND with a mask.
     pub fn mask_and(&self, m: u16) -> Entry
         ensures value { result ≡ words.entry_and m self.now }
-        ensures holds { (first : Option Suspended) (v : ℕ) → IsFromEntry first (Some self.now) v → IsFromEntry first (Some result) (bit_and v m) }
+        ensures holds { (first : Option Suspended) (v : ℕ) → IsFromEntry first (Some self.now) v
+            → IsFromEntry first (Some result) (bit_and v m) }
     {
         Entry {
             place: self.place,
@@ -57,7 +58,8 @@ impl Entry {
     /// The relation behind an OR with a mask.
     pub fn mask_or(&self, m: u16) -> Entry
         ensures value { result ≡ words.entry_or m self.now }
-        ensures holds { (first : Option Suspended) (v : ℕ) → IsFromEntry first (Some self.now) v → IsFromEntry first (Some result) (bit_or v m) }
+        ensures holds { (first : Option Suspended) (v : ℕ) → IsFromEntry first (Some self.now) v
+            → IsFromEntry first (Some result) (bit_or v m) }
     {
         Entry {
             place: self.place,
@@ -70,7 +72,8 @@ impl Entry {
 /// A relation behind an AND with a mask, where there is one.
 pub(crate) fn relation_and(entry: &Option<Entry>, m: u16) -> Option<Entry>
     ensures value { result ≡ option_map (words.entry_and m) entry.now }
-    ensures holds { (first : Option Suspended) (v : ℕ) → IsFromEntry first entry.now v → IsFromEntry first result (bit_and v m) }
+    ensures holds { (first : Option Suspended) (v : ℕ) → IsFromEntry first entry.now v
+        → IsFromEntry first result (bit_and v m) }
 {
     match entry {
         Some(entry) => Some(entry.mask_and(m)),
@@ -81,7 +84,8 @@ pub(crate) fn relation_and(entry: &Option<Entry>, m: u16) -> Option<Entry>
 /// A relation behind an OR with a mask, where there is one.
 pub(crate) fn relation_or(entry: &Option<Entry>, m: u16) -> Option<Entry>
     ensures value { result ≡ option_map (words.entry_or m) entry.now }
-    ensures holds { (first : Option Suspended) (v : ℕ) → IsFromEntry first entry.now v → IsFromEntry first result (bit_or v m) }
+    ensures holds { (first : Option Suspended) (v : ℕ) → IsFromEntry first entry.now v
+        → IsFromEntry first result (bit_or v m) }
 {
     match entry {
         Some(entry) => Some(entry.mask_or(m)),
@@ -94,7 +98,8 @@ impl Word {
     pub fn join(&self, other: &Word) -> Word
         ensures value { result ≡ words.word_join self.now other.now }
         ensures own { (first : Option Suspended) (v : ℕ) → HoldsOfWord first self.now v → HoldsOfWord first result v }
-        ensures others { (first : Option Suspended) (v : ℕ) → HoldsOfWord first other.now v → HoldsOfWord first result v }
+        ensures others { (first : Option Suspended) (v : ℕ) → HoldsOfWord first other.now v
+            → HoldsOfWord first result v }
     {
         Word {
             set: self.set.join(&other.set),
@@ -117,7 +122,8 @@ impl Word {
     /// Whether the set is within the other one, and the other one's relation is this one's too.
     pub fn within(&self, other: &Word) -> bool
         ensures value { result ≡ words.word_within self.now other.now }
-        ensures holds { result ≡ true → (first : Option Suspended) (v : ℕ) → HoldsOfWord first self.now v → HoldsOfWord first other.now v }
+        ensures holds { result ≡ true → (first : Option Suspended) (v : ℕ) → HoldsOfWord first self.now v
+            → HoldsOfWord first other.now v }
     {
         self.set.within(&other.set) && is_entry_within(&self.entry, &other.entry)
     }
@@ -125,7 +131,8 @@ impl Word {
     /// The word behind an AND with a constant.
     pub fn mask_and(&self, m: u16) -> Word
         ensures value { result ≡ words.word_and m self.now }
-        ensures holds { (first : Option Suspended) (v : ℕ) → HoldsOfWord first self.now v → HoldsOfWord first result (bit_and v m) }
+        ensures holds { (first : Option Suspended) (v : ℕ) → HoldsOfWord first self.now v
+            → HoldsOfWord first result (bit_and v m) }
     {
         Word {
             set: w16::and(&self.set, &Vs16::one(m)),
@@ -136,7 +143,8 @@ impl Word {
     /// The word behind an OR with a constant.
     pub fn mask_or(&self, m: u16) -> Word
         ensures value { result ≡ words.word_or m self.now }
-        ensures holds { (first : Option Suspended) (v : ℕ) → HoldsOfWord first self.now v → HoldsOfWord first result (bit_or v m) }
+        ensures holds { (first : Option Suspended) (v : ℕ) → HoldsOfWord first self.now v
+            → HoldsOfWord first result (bit_or v m) }
     {
         Word {
             set: w16::or(&self.set, &Vs16::one(m)),

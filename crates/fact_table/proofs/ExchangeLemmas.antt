@@ -25,7 +25,8 @@ pub all_map : {X : Type 0} (P Q : X → Type 0) → (xs : List X) → ((x : X) �
 all_map P Q [] f a = tt
 all_map P Q (x ∷ xs) f a = (f x a.0, all_map P Q xs f a.1)
 
-pub all_both : {X : Type 0} (P Q : X → Type 0) → (xs : List X) → AllByRecursion P xs → AllByRecursion Q xs → AllByRecursion (λ x. P x × Q x) xs
+pub all_both : {X : Type 0} (P Q : X → Type 0) → (xs : List X) → AllByRecursion P xs → AllByRecursion Q xs
+    → AllByRecursion (λ x. P x × Q x) xs
 all_both P Q [] a b = tt
 all_both P Q (x ∷ xs) a b = ((a.0, b.0), all_both P Q xs a.1 b.1)
 
@@ -37,7 +38,8 @@ pub all_append : {X : Type 0} (P : X → Type 0) → (xs ys : List X) → AllByR
 all_append P [] ys a b = b
 all_append P (x ∷ xs) ys a b = (a.0, all_append P xs ys a.1 b)
 
-distinct_push : {X : Type 0} (e : X → X → Bool) (xs : List X) (x : X) → IsDistinct e xs → AllByRecursion (λ y. e y x ≡ false) xs → IsDistinct e (xs ++ x ∷ [])
+distinct_push : {X : Type 0} (e : X → X → Bool) (xs : List X) (x : X) → IsDistinct e xs
+    → AllByRecursion (λ y. e y x ≡ false) xs → IsDistinct e (xs ++ x ∷ [])
 unfolding IsDistinct
 distinct_push e [] x d a = (tt, tt)
 distinct_push e (y ∷ ys) x d a = (all_push (λ z. e y z ≡ false) ys x d.0 a.0, distinct_push e ys x d.1 a.1)
@@ -81,7 +83,8 @@ module _ {A : Type 0} where
 
   module _ (m : Analysis A) (beside : Beside m) where
     -- the first of these tickets comes home
-    pub others_out : (journal : List Event) (event : Event) (t : Out A) (ts : List (Out A)) → unit_of event ≡ t.unit → AreOutOf (replay m journal) (t ∷ ts)
+    pub others_out : (journal : List Event) (event : Event) (t : Out A) (ts : List (Out A)) → unit_of event ≡ t.unit
+        → AreOutOf (replay m journal) (t ∷ ts)
         → AreOutOf (replay m (journal ++ event ∷ [])) ts
     unfolding IsDistinct
     others_out journal event t ts own out = record {
@@ -92,7 +95,8 @@ module _ {A : Type 0} where
 
     -- a further unit is claimed
     further_out : (seat : ℕ) (journal : List Event) (ts : List (Out A)) (t : Out A) → ((u v : WorkUnit) → same_unit u v ≡ true → u ≡ v)
-        → AreOutOf (replay m journal) ts → IsClaimed m seat journal t → AreOutOf (replay m (journal ++ Claim seat t.unit ∷ [])) (ts ++ t ∷ [])
+        → AreOutOf (replay m journal) ts → IsClaimed m seat journal t
+        → AreOutOf (replay m (journal ++ Claim seat t.unit ∷ [])) (ts ++ t ∷ [])
     further_out seat journal ts t one out claimed =
         let home = claimed.first.claimable.at_home in
         record {
@@ -137,17 +141,20 @@ module _ {C B A : Type 0} (m : Analysis A) where
       }
 
   -- works behind the first
-  pub works_rest : (first : Done C B A) (left : List (Done C B A)) (done : List (Done C B A)) → done ≡ first ∷ left → AllByRecursion (IsWorked m) done → AllByRecursion (IsWorked m) left
+  pub works_rest : (first : Done C B A) (left : List (Done C B A)) (done : List (Done C B A)) → done ≡ first ∷ left
+      → AllByRecursion (IsWorked m) done → AllByRecursion (IsWorked m) left
   works_rest first left done e h = let at : AllByRecursion (IsWorked m) (first ∷ left) = subst (λ ds. AllByRecursion (IsWorked m) ds) e h in at.1
 
 -- CLAIMS
 
 module _ {A : Type 0} (m : Analysis A) (seat : ℕ) where
-  at_journal : (a b : List Event) (share : ℕ) (t : Out A) → a ≡ b → HasAtLeast (replay m a) share × IsClaimed m seat a t → HasAtLeast (replay m b) share × IsClaimed m seat b t
+  at_journal : (a b : List Event) (share : ℕ) (t : Out A) → a ≡ b → HasAtLeast (replay m a) share × IsClaimed m seat a t
+      → HasAtLeast (replay m b) share × IsClaimed m seat b t
   at_journal a b share t e h = subst (λ j. HasAtLeast (replay m j) share × IsClaimed m seat j t) e h
 
   shared_push : (share : ℕ) (journal : List Event) (ts : List (Out A)) (t : Out A) → AreShared m seat share journal ts
-      → HasAtLeast (replay m (journal ++ claim_events seat ts)) share × IsClaimed m seat (journal ++ claim_events seat ts) t → AreShared m seat share journal (ts ++ t ∷ [])
+      → HasAtLeast (replay m (journal ++ claim_events seat ts)) share × IsClaimed m seat (journal ++ claim_events seat ts) t
+      → AreShared m seat share journal (ts ++ t ∷ [])
   shared_push share journal [] t a h = let at = at_journal (journal ++ []) journal share t (append-nil journal) h in (at.0, at.1, tt)
   shared_push share journal (s ∷ ss) t a h = (
     a.0,
@@ -158,7 +165,8 @@ module _ {A : Type 0} (m : Analysis A) (seat : ℕ) where
   )
 
   claimed_push : (share : ℕ) (journal : List Event) (ts : List (Out A)) (t : Out A) → AreClaimed m seat share journal ts
-      → (0 < length ts → HasAtLeast (replay m (journal ++ claim_events seat ts)) share) → IsClaimed m seat (journal ++ claim_events seat ts) t
+      → (0 < length ts → HasAtLeast (replay m (journal ++ claim_events seat ts)) share)
+      → IsClaimed m seat (journal ++ claim_events seat ts) t
       → AreClaimed m seat share journal (ts ++ t ∷ [])
   claimed_push share journal [] t a h c = (subst (λ j. IsClaimed m seat j t) (append-nil journal) c, tt)
   claimed_push share journal (s ∷ ss) t a h c = (
@@ -169,7 +177,8 @@ module _ {A : Type 0} (m : Analysis A) (seat : ℕ) where
   )
 
   -- and why they end
-  tells : (b : BookState A) (want share : ℕ) (behind : Bool) (ts : List (Out A)) (last : Last) → length ts < want → (behind ≡ true → 0 < length ts) → (0 < length ts → behind ≡ true)
+  tells : (b : BookState A) (want share : ℕ) (behind : Bool) (ts : List (Out A)) (last : Last) → length ts < want
+      → (behind ≡ true → 0 < length ts) → (0 < length ts → behind ≡ true)
       → AreOutOf b ts → TellsNone b share behind last → TellsLast {D = Out A} b want share [] ts last
   tells b want share behind ts Full below so os out h = absurd h
   tells b want share behind ts Shared below so os out h = (refl, so h.0, below, h.1, h.2)
@@ -197,8 +206,10 @@ module _ {A : Type 0} (m : Analysis A) (seat : ℕ) where
       out = none_out_of (replay m k.journal);
     })
 
-    pub claims_more : (old k k' : Kept B) (share : ℕ) (behind : Bool) (ts : List (Out A)) (t : Out A) → Beside m → ((u v : WorkUnit) → same_unit u v ≡ true → u ≡ v)
-        → (0 < length ts → behind ≡ true) → AnswersFurther m seat k k' share behind (Ok t) → ClaimsSoFar old share ts k → ClaimsSoFar old share (ts ++ t ∷ []) k'
+    pub claims_more : (old k k' : Kept B) (share : ℕ) (behind : Bool) (ts : List (Out A)) (t : Out A) → Beside m
+        → ((u v : WorkUnit) → same_unit u v ≡ true → u ≡ v)
+        → (0 < length ts → behind ≡ true) → AnswersFurther m seat k k' share behind (Ok t) → ClaimsSoFar old share ts k
+        → ClaimsSoFar old share (ts ++ t ∷ []) k'
     claims_more old k k' share behind ts t beside one so a c =
         let claim = Claim seat t.unit in
         let journal : k.journal ≡ old.journal ++ claim_events seat ts = ap (λ b. b.journal) c.book in
@@ -211,7 +222,8 @@ module _ {A : Type 0} (m : Analysis A) (seat : ℕ) where
           out = subst (λ b. AreOutOf (replay m b.journal) (ts ++ t ∷ [])) (sym a.2) (further_out m beside seat k.journal ts t one c.out a.1);
         }
 
-    pub claims_end : (old k k' : Kept B) (want share : ℕ) (behind : Bool) (ts : List (Out A)) (last : Last) → length ts < want → (behind ≡ true → 0 < length ts) → (0 < length ts → behind ≡ true)
+    pub claims_end : (old k k' : Kept B) (want share : ℕ) (behind : Bool) (ts : List (Out A)) (last : Last)
+        → length ts < want → (behind ≡ true → 0 < length ts) → (0 < length ts → behind ≡ true)
         → AnswersFurther m seat k k' share behind (Err last) → ClaimsSoFar old share ts k → ClaimsSome m seat old want share ts last k'
     claims_end old k k' want share behind ts last below so os a c = subst (ClaimsSome m seat old want share ts last) (sym a.0) (record {
       claims = c.claims;
@@ -220,11 +232,13 @@ module _ {A : Type 0} (m : Analysis A) (seat : ℕ) where
       last_is = tells (replay m k.journal) want share behind ts last below so os c.out a.1;
     })
 
-    pub claims_full : (old k : Kept B) (want share : ℕ) (ts : List (Out A)) → length ts ≡ want → ClaimsSoFar old share ts k → ClaimsSome m seat old want share ts Full k
+    pub claims_full : (old k : Kept B) (want share : ℕ) (ts : List (Out A)) → length ts ≡ want
+        → ClaimsSoFar old share ts k → ClaimsSome m seat old want share ts Full k
     claims_full old k want share ts all c = record { claims = c.claims; book = c.book; out = c.out; last_is = (refl, all) }
 
     -- one claim is a further one, where that may come
-    pub claims_further : (k k' : Kept B) (share : ℕ) (behind : Bool) (r : Result (Out A) Last) → (behind ≡ true → HasAtLeast (replay m k.journal) share)
+    pub claims_further : (k k' : Kept B) (share : ℕ) (behind : Bool) (r : Result (Out A) Last)
+        → (behind ≡ true → HasAtLeast (replay m k.journal) share)
         → AnswersFurther m seat k k' 0 false r → AnswersFurther m seat k k' share behind r
     claims_further k k' share behind (Ok t) may a = (may, a.1, a.2)
     claims_further k k' share behind (Err Full) may a = a
@@ -236,7 +250,8 @@ module _ {A : Type 0} (m : Analysis A) (seat : ℕ) where
     -- POSTS AND CLAIMS
 
     pub exchanged : {C : Type 0} (old mid k : Kept B) (done : List (Done C B A)) (want share : ℕ) (unposted : List (Done C B A)) (ts : List (Out A)) (last : Last)
-        → unposted ≡ [] → Posts m old done unposted mid → ClaimsSome m seat mid want share ts last k → ExchangesOn m seat old done want share unposted ts last k
+        → unposted ≡ [] → Posts m old done unposted mid → ClaimsSome m seat mid want share ts last k
+        → ExchangesOn m seat old done want share unposted ts last k
     exchanged {C = C} old mid k done want share unposted ts last none p c =
         let posts = post_events (tickets_of p.posted) in
         record {

@@ -38,7 +38,8 @@ none_of number [] e = tt
 none_of number (x ∷ xs) e = let o = other_of number x (events_of seat_of number xs) (seat_of x == number) refl e in (o.0, none_of number xs o.1)
 
 -- behind a front that has all events of a seat there are none
-none_since : (number : ℕ) (seen rest mine : List Event) → events_of seat_of number seen ≡ mine → events_of seat_of number (seen ++ rest) ≡ mine
+none_since : (number : ℕ) (seen rest mine : List Event) → events_of seat_of number seen ≡ mine
+    → events_of seat_of number (seen ++ rest) ≡ mine
     → NoneOfSeat number rest
 none_since number seen rest mine a b =
     let ev : List Event → List Event = events_of seat_of number in
@@ -61,20 +62,23 @@ out_still m number seen log mine ticket stays begins a b legal out seat =
     (stays seen more ticket.unit ticket (subst (IsLegalJournal m) begins.1 legal) out (subst (λ n. NoneOfSeat n more) (sym seat) none))
 
 -- the seat behind a turn that added these events
-pub behind_turn : {B : Type 0} (old begun new : ShownSeat Event B) (log added journal : List Event) → old.holds ≡ false → begun ≡ turn_begun old log
+pub behind_turn : {B : Type 0} (old begun new : ShownSeat Event B) (log added journal : List Event) → old.holds ≡ false
+    → begun ≡ turn_begun old log
     → new ≡ turn_ended begun journal → journal ≡ log ++ added → new ≡ record old { seen = log ++ added; mine = old.mine ++ added }
 behind_turn old begun new log added journal idle b n j =
     n ∙ ap₂ (λ s l. turn_ended s l) b j
     ∙ ap₂ (λ h l. record old { holds = h; seen = log ++ added; mine = old.mine ++ l }) (sym idle) (drop-append_seam log added)
 
-pub looked_turn : {B : Type 0} (old begun new : ShownSeat Event B) (log journal : List Event) → old.holds ≡ false → begun ≡ turn_begun old log
+pub looked_turn : {B : Type 0} (old begun new : ShownSeat Event B) (log journal : List Event) → old.holds ≡ false
+    → begun ≡ turn_begun old log
     → new ≡ turn_ended begun journal → journal ≡ log → new ≡ looked old log
 looked_turn old begun new log journal idle b n j =
     behind_turn old begun new log [] journal idle b n (j ∙ sym (append-nil log))
     ∙ ap₂ (λ s m. record old { seen = s; mine = m }) (append-nil log) (append-nil old.mine)
 
 -- the events of a seat's tickets are the seat's
-posts_of_seat : {A : Type 0} (number : ℕ) (ts : List (Out A)) → AllByRecursion (λ t. t.seat ≡ number) ts → AllOf seat_of number (post_events ts)
+posts_of_seat : {A : Type 0} (number : ℕ) (ts : List (Out A)) → AllByRecursion (λ t. t.seat ≡ number) ts
+    → AllOf seat_of number (post_events ts)
 posts_of_seat number [] a = All-nil (λ x. seat_of x ≡ number)
 posts_of_seat number (t ∷ ts) a = All-cons (λ x. seat_of x ≡ number) (Post t.seat t.unit) (post_events ts) a.0 (posts_of_seat number ts a.1)
 
@@ -87,11 +91,13 @@ seats_split : {C B A : Type 0} (number : ℕ) (xs ys : List (Done C B A)) → Al
 seats_split number [] ys a = (tt, a)
 seats_split number (x ∷ xs) ys a = let r = seats_split number xs ys a.1 in ((a.0, r.0), r.1)
 
-seats_shared : {A : Type 0} (m : Analysis A) (seat share : ℕ) (journal : List Event) (ts : List (Out A)) → AreShared m seat share journal ts → AllByRecursion (λ t. t.seat ≡ seat) ts
+seats_shared : {A : Type 0} (m : Analysis A) (seat share : ℕ) (journal : List Event) (ts : List (Out A))
+    → AreShared m seat share journal ts → AllByRecursion (λ t. t.seat ≡ seat) ts
 seats_shared m seat share journal [] a = tt
 seats_shared m seat share journal (t ∷ ts) a = (a.1.seat_is, seats_shared m seat share (journal ++ Claim seat t.unit ∷ []) ts a.2)
 
-seats_claimed : {A : Type 0} (m : Analysis A) (seat share : ℕ) (journal : List Event) (ts : List (Out A)) → AreClaimed m seat share journal ts → AllByRecursion (λ t. t.seat ≡ seat) ts
+seats_claimed : {A : Type 0} (m : Analysis A) (seat share : ℕ) (journal : List Event) (ts : List (Out A))
+    → AreClaimed m seat share journal ts → AllByRecursion (λ t. t.seat ≡ seat) ts
 seats_claimed m seat share journal [] a = tt
 seats_claimed m seat share journal (t ∷ ts) a = (a.0.seat_is, seats_shared m seat share (journal ++ Claim seat t.unit ∷ []) ts a.1)
 
@@ -114,23 +120,27 @@ module _ {B : Type 0} where
   )
 
   module _ {A : Type 0} (m : Analysis A) where
-    pub base_kept : {C : Type 0} (number : ℕ) (k k' : Kept B) (claimed : Claimed C B A) → AnswersClaim m k k' number claimed → k'.base ≡ k.base
+    pub base_kept : {C : Type 0} (number : ℕ) (k k' : Kept B) (claimed : Claimed C B A)
+        → AnswersClaim m k k' number claimed → k'.base ≡ k.base
     base_kept number k k' (Ticket t) a = ap (λ b. b.base) a.2
     base_kept number k k' Idle a = ap (λ b. b.base) a.0
     base_kept number k k' Finished a = ap (λ b. b.base) a.0
 
-    grows_claim : {C : Type 0} (number : ℕ) (k k' : Kept B) (claimed : Claimed C B A) → AnswersClaim m k k' number claimed → Grows number k k'
+    grows_claim : {C : Type 0} (number : ℕ) (k k' : Kept B) (claimed : Claimed C B A)
+        → AnswersClaim m k k' number claimed → Grows number k k'
     grows_claim number k k' (Ticket t) a = grows_by number k k' (Claim number t.unit) a.2 refl
     grows_claim number k k' Idle a = grows_not number k k' a.0
     grows_claim number k k' Finished a = grows_not number k k' a.0
 
-    pub grows_claimed : {C X : Type 0} (number : ℕ) (k k' : Kept B) (r : Result (Claimed C B A) X) → IfOk r (λ claimed. AnswersClaim m k k' number claimed)
+    pub grows_claimed : {C X : Type 0} (number : ℕ) (k k' : Kept B) (r : Result (Claimed C B A) X)
+        → IfOk r (λ claimed. AnswersClaim m k k' number claimed)
         → OnErr r (k' ≡ k) → Grows number k k'
     grows_claimed number k k' (Ok claimed) a e = grows_claim number k k' claimed a
     grows_claimed number k k' (Err x) a e = grows_not number k k' e
 
     pub grows_exchange : {C : Type 0} (number : ℕ) (k k' : Kept B) (done : List (Done C B A)) (want share : ℕ) (unposted : List (Done C B A)) (ts : List (Out A)) (last : Last)
-        → AllByRecursion (λ t. t.seat ≡ number) (tickets_of done) → ExchangesOn m number k done want share unposted ts last k' → Grows number k k'
+        → AllByRecursion (λ t. t.seat ≡ number) (tickets_of done)
+        → ExchangesOn m number k done want share unposted ts last k' → Grows number k k'
     grows_exchange number k k' done want share unposted ts last seats x = (
       post_events (tickets_of x.posted) ++ claim_events number ts,
       ap (λ b. b.journal) x.book,
@@ -177,8 +187,10 @@ module _ {B : Type 0} where
     }
 
     -- the answer of the book, told of the seat
-    claims_as : {C : Type 0} (old new : ShownSeat Event B) (k k' : Kept B) (claimed : Claimed C B A) → Some k.base ≡ old.base → StartsWith k.journal old.seen
-        → k'.base ≡ k.base → k'.journal ≡ new.seen → AnswersClaim (analysis k.base) k k' old.number claimed → new ≡ claimed_seat old k.journal claimed
+    claims_as : {C : Type 0} (old new : ShownSeat Event B) (k k' : Kept B) (claimed : Claimed C B A)
+        → Some k.base ≡ old.base → StartsWith k.journal old.seen
+        → k'.base ≡ k.base → k'.journal ≡ new.seen → AnswersClaim (analysis k.base) k k' old.number claimed
+        → new ≡ claimed_seat old k.journal claimed
         → Claims analysis old claimed new
     claims_as old new k k' claimed base begins b j a s = record {
       base = k.base;
@@ -201,13 +213,15 @@ module _ {B : Type 0} where
         let s = looked_turn old begun new k.journal k'.journal t.start.idle t.start.begun_is t.new_is (ap (λ b. b.journal) a.0) in
         claims_as old new k k' Finished t.start.base t.start.begins (ap (λ b. b.base) a.0) (ap (λ b. b.journal) a.0 ∙ sym (ap (λ x. x.seen) s)) a s
 
-    pub claims_ok : {C X : Type 0} (old begun new : ShownSeat Event B) (k k' : Kept B) (r : Result (Claimed C B A) X) → IsTurn old begun new k k'
+    pub claims_ok : {C X : Type 0} (old begun new : ShownSeat Event B) (k k' : Kept B) (r : Result (Claimed C B A) X)
+        → IsTurn old begun new k k'
         → IfOk r (λ claimed. AnswersClaim (analysis k.base) k k' old.number claimed) → IfOk r (λ claimed. Claims analysis old claimed new)
     claims_ok old begun new k k' (Ok claimed) t a = claimed_turn old begun new k k' claimed t a
     claims_ok old begun new k k' (Err x) t a = tt
 
     -- tickets that are out to a seat are out when its turn begins
-    pub outs_at_turn : (old begun : ShownSeat Event B) (k : Kept B) (tickets : List (Out A)) → ((base : B) → Stays (analysis base)) → IsBegun old begun k → IsOwn seat_of old → IsOwn seat_of begun
+    pub outs_at_turn : (old begun : ShownSeat Event B) (k : Kept B) (tickets : List (Out A))
+        → ((base : B) → Stays (analysis base)) → IsBegun old begun k → IsOwn seat_of old → IsOwn seat_of begun
         → IsLegalJournal (analysis k.base) k.journal → AreOutTo analysis old tickets → AreOutOf (replay (analysis k.base) k.journal) tickets
     outs_at_turn old begun k tickets stays start own own' legal out =
         let same : out.base ≡ k.base = same_Some out.base k.base (out.base_is ∙ sym start.base) in
@@ -219,9 +233,12 @@ module _ {B : Type 0} where
         }
 
     -- the tickets behind one that ends are still out
-    pub outs_behind : (old begun new : ShownSeat Event B) (k k' : Kept B) (ticket : Out A) (event : Event) (tickets : List (Out A)) → ((base : B) → Stays (analysis base))
-        → ((base : B) → Beside (analysis base)) → unit_of event ≡ ticket.unit → IsTurn old begun new k k' → IsOwn seat_of old → IsOwn seat_of begun
-        → IsLegalJournal (analysis k.base) k.journal → k' ≡ with_event k event → AreOutTo analysis old (ticket ∷ tickets) → AreOutTo analysis new tickets
+    pub outs_behind : (old begun new : ShownSeat Event B) (k k' : Kept B) (ticket : Out A) (event : Event) (tickets : List (Out A))
+        → ((base : B) → Stays (analysis base))
+        → ((base : B) → Beside (analysis base)) → unit_of event ≡ ticket.unit → IsTurn old begun new k k'
+        → IsOwn seat_of old → IsOwn seat_of begun
+        → IsLegalJournal (analysis k.base) k.journal → k' ≡ with_event k event
+        → AreOutTo analysis old (ticket ∷ tickets) → AreOutTo analysis new tickets
     outs_behind old begun new k k' ticket event tickets stays beside own_unit t own own' legal e out =
         let m = analysis k.base in
         let at = outs_at_turn old begun k (ticket ∷ tickets) stays t.start own own' legal out in
@@ -270,7 +287,8 @@ module _ {B : Type 0} where
         }
 
     -- an exchange for which there is no memory before its turn
-    pub exchange_none : {C : Type 0} (s : ShownSeat Event B) (done : List (Done C B A)) (want share : ℕ) (r : Exchanged C B A) → AreOutTo analysis s (tickets_of done)
+    pub exchange_none : {C : Type 0} (s : ShownSeat Event B) (done : List (Done C B A)) (want share : ℕ) (r : Exchanged C B A)
+        → AreOutTo analysis s (tickets_of done)
         → r.unposted.items ≡ done → r.tickets.items ≡ [] → r.last ≡ Memory → r.left ≡ true → Exchanges analysis s done want share r s
     exchange_none s done want share r out left none last more =
         let m = analysis out.base in
@@ -291,7 +309,8 @@ module _ {B : Type 0} where
           none_left = λ no some. let bad : false ≡ true = subst (λ b. IsTrue (not b)) more no in absurd (cc);
         }
 
-    pub out_at_turn : (old begun : ShownSeat Event B) (k : Kept B) (ticket : Out A) → ((base : B) → Stays (analysis base)) → IsBegun old begun k → IsOwn seat_of old → IsOwn seat_of begun
+    pub out_at_turn : (old begun : ShownSeat Event B) (k : Kept B) (ticket : Out A)
+        → ((base : B) → Stays (analysis base)) → IsBegun old begun k → IsOwn seat_of old → IsOwn seat_of begun
         → IsLegalJournal (analysis k.base) k.journal → IsOutTo analysis old ticket → IsOutOf (replay (analysis k.base) k.journal) ticket
     out_at_turn old begun k ticket stays start own own' legal out =
         let same : out.base ≡ k.base = same_Some out.base k.base (out.base_is ∙ sym start.base) in
@@ -312,7 +331,8 @@ pub on_err : {X Y P Q : Type 0} (r : Result X Y) → OnErr r P → (P → Q) →
 on_err (Ok x) p f = p
 on_err (Err x) p f = f p
 
-pub grows_post : {B X Y : Type 0} (number : ℕ) (k k' : Kept B) (event : Event) (r : Result X Y) → OnOk r (k' ≡ with_event k event) → OnErr r (k' ≡ k)
+pub grows_post : {B X Y : Type 0} (number : ℕ) (k k' : Kept B) (event : Event) (r : Result X Y)
+    → OnOk r (k' ≡ with_event k event) → OnErr r (k' ≡ k)
     → seat_of event ≡ number → Grows number k k'
 grows_post number k k' event (Ok x) a e s = grows_by number k k' event a s
 grows_post number k k' event (Err y) a e s = grows_not number k k' e

@@ -81,12 +81,14 @@ module _ {A : Type 0} where
     -- the first is claimed in any case
     abbrev pub AreClaimed : ℕ → List Event → List (Out A) → Type 0
     AreClaimed share journal [] = Unit {0}
-    AreClaimed share journal (ticket ∷ tickets) = IsClaimed journal ticket × AreShared share (journal ++ Claim seat ticket.unit ∷ []) tickets
+    AreClaimed share journal (ticket ∷ tickets) = IsClaimed journal ticket
+        × AreShared share (journal ++ Claim seat ticket.unit ∷ []) tickets
 
     -- what the book answers a further claim of a turn
     abbrev pub AnswersFurther : {B : Type 0} → Kept B → Kept B → ℕ → Bool → Result (Out A) Last → Type 0
     AnswersFurther old new share behind (Ok ticket) =
-        (behind ≡ true → HasAtLeast (replay m old.journal) share) × IsClaimed old.journal ticket × (new ≡ with_event old (Claim seat ticket.unit))
+        (behind ≡ true → HasAtLeast (replay m old.journal) share) × IsClaimed old.journal ticket
+        × (new ≡ with_event old (Claim seat ticket.unit))
     AnswersFurther old new share behind (Err last) = (new ≡ old) × TellsNone (replay m old.journal) share behind last
 
     -- the claims of a turn, up to `want`

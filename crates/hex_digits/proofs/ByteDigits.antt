@@ -10,7 +10,8 @@ hex_bytes-append (x ∷ xs) ys = ap (λ (zs : List ℕ). hex 2 x ++ zs) (hex_byt
 take_two : (i : ℕ) (text : List ℕ) → take i text ++ take 2 (drop i text) ≡ take (i + 2) text
 take_two i text = ap₂ (λ (xs ys : List ℕ). xs ++ ys) (sym (take-take i (i + 2) text (omega arith))) (sym (drop-take i 2 text)) ∙ take-append-drop i (take (i + 2) text)
 
-pub byte_more : (i byte : ℕ) (bytes more text : List ℕ) → more ≡ bytes ++ byte ∷ [] → hex_bytes bytes ≡ take (2 * i) text → hex 2 byte ≡ take (2 * i + 2 - 2 * i) (drop (2 * i) text)
+pub byte_more : (i byte : ℕ) (bytes more text : List ℕ) → more ≡ bytes ++ byte ∷ []
+    → hex_bytes bytes ≡ take (2 * i) text → hex 2 byte ≡ take (2 * i + 2 - 2 * i) (drop (2 * i) text)
     → hex_bytes more ≡ take (2 * (i + 1)) text
 byte_more i byte bytes more text is so_far here =
     let e : 2 * i + 2 ≡ 2 * (i + 1) = omega arith in

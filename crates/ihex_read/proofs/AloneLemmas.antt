@@ -33,7 +33,8 @@ either_fault true true h = refl
 either_fault true false h = cc h
 either_fault false miscounted h = refl
 
-no_shape_fault : (all miscounted : Bool) → None ≡ (if not all then Some BadDigit else if miscounted then Some BadLength else None) → miscounted ≡ false
+no_shape_fault : (all miscounted : Bool)
+    → None ≡ (if not all then Some BadDigit else if miscounted then Some BadLength else None) → miscounted ≡ false
 no_shape_fault true true h = cc h
 no_shape_fault true false h = refl
 no_shape_fault false miscounted h = cc h

@@ -27,11 +27,13 @@ digit_below c = upper (nat_le 65 c && nat_le c 70) refl
     decimal true e = let top = leb-true c 57 (and_parts (nat_le 48 c) (nat_le c 57) e).1 in omega (arith, top)
     decimal false e = omega arith
 
-    lower : (b : Bool) → (nat_le 97 c && nat_le c 102) ≡ b → unwrap_or (if b then Some (c - 87) else if nat_le 48 c && nat_le c 57 then Some (c - 48) else None) 0 < 16
+    lower : (b : Bool) → (nat_le 97 c && nat_le c 102) ≡ b
+        → unwrap_or (if b then Some (c - 87) else if nat_le 48 c && nat_le c 57 then Some (c - 48) else None) 0 < 16
     lower true e = let top = leb-true c 102 (and_parts (nat_le 97 c) (nat_le c 102) e).1 in omega (arith, top)
     lower false e = decimal (nat_le 48 c && nat_le c 57) refl
 
-    upper : (b : Bool) → (nat_le 65 c && nat_le c 70) ≡ b → unwrap_or (if b then Some (c - 55) else if nat_le 97 c && nat_le c 102 then Some (c - 87) else if nat_le 48 c && nat_le c 57 then Some (c - 48) else None) 0 < 16
+    upper : (b : Bool) → (nat_le 65 c && nat_le c 70) ≡ b
+        → unwrap_or (if b then Some (c - 55) else if nat_le 97 c && nat_le c 102 then Some (c - 87) else if nat_le 48 c && nat_le c 57 then Some (c - 48) else None) 0 < 16
     upper true e = let top = leb-true c 70 (and_parts (nat_le 65 c) (nat_le c 70) e).1 in omega (arith, top)
     upper false e = lower (nat_le 97 c && nat_le c 102) refl
 
@@ -63,7 +65,8 @@ placed_from-are (line ∷ lines) base =
     (placed_by-are base (record_of line) (bytes_of-are (drop 1 line)))
     (placed_from-are lines (base_behind base (record_of line)))
 
-byte_at-is : (image : List (Option ℕ)) (lines : List (List ℕ)) → IsImage image lines → (at : ℕ) (found : Option ℕ) → byte_at image at ≡ found → IsByte found
+byte_at-is : (image : List (Option ℕ)) (lines : List (List ℕ)) → IsImage image lines → (at : ℕ) (found : Option ℕ)
+    → byte_at image at ≡ found → IsByte found
 byte_at-is image lines is at None e = tt
 byte_at-is image lines is at (Some value) e =
     All-contains (λ (p : ℕ × ℕ). p.1 < 256) (placed_of lines) (at, value) (placed_from-are lines 0) ((is.bytes at value).0 e)

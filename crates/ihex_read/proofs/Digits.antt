@@ -15,7 +15,8 @@ length-bytes_of [] = refl
 length-bytes_of (a ∷ []) = refl
 length-bytes_of (a ∷ b ∷ digits) = let step = length-bytes_of digits in omega (arith, step)
 
-bind_ok : {A B : Type 0} (r : Result A FromHexError) (f : A → Result B FromHexError) (y : B) → (r >>= f) ≡ Ok y → (x : A) × (r ≡ Ok x) × (f x ≡ Ok y)
+bind_ok : {A B : Type 0} (r : Result A FromHexError) (f : A → Result B FromHexError) (y : B) → (r >>= f) ≡ Ok y
+    → (x : A) × (r ≡ Ok x) × (f x ≡ Ok y)
 bind_ok (Ok x) f y h = (x, refl, h)
 bind_ok (Err e) f y h = cc h
 
@@ -49,7 +50,8 @@ decoded digits n bytes twice h = bytes_of-decode_pairs 0 digits bytes
     (sym (decode_of-even digits (omega arith)) ∙ sym (decode_sized-twice digits n twice) ∙ h)
 
 -- the answer of `decode_to_slice`, by the answer of the decoder
-answer : (digits : List ℕ) (n : ℕ) (r : Result (Unit {0}) FromHexError) (out : List ℕ) (d : Result (List ℕ) FromHexError) → length digits ≡ 2 * n
+answer : (digits : List ℕ) (n : ℕ) (r : Result (Unit {0}) FromHexError) (out : List ℕ) (d : Result (List ℕ) FromHexError)
+    → length digits ≡ 2 * n
     → decode_sized digits n ≡ d → MatchResult d (λ bytes. (r ≡ Ok tt) × (out ≡ bytes)) (λ e. r ≡ Err e)
     → (is_ok r ≡ is_ok d) × (is_ok r ≡ true → out ≡ bytes_of digits)
 answer digits n r out (Ok bytes) twice e h = (ap is_ok h.0, λ _. h.1 ∙ sym (decoded digits n bytes twice e))

@@ -26,18 +26,21 @@ front_cut (x ∷ front) more (y ∷ before) line behind e h =
     (rest.0, cc (heads, rest.1), rest.2)
 
 -- what stands in place of what was behind the front
-other_end : (front before : List (List ℕ)) (line : List ℕ) (rest more : List (List ℕ)) → front ≡ before ++ line ∷ rest → front ++ more ≡ before ++ line ∷ (rest ++ more)
+other_end : (front before : List (List ℕ)) (line : List ℕ) (rest more : List (List ℕ)) → front ≡ before ++ line ∷ rest
+    → front ++ more ≡ before ++ line ∷ (rest ++ more)
 other_end front before line rest more e = ap (λ lines. lines ++ more) e ∙ append_assoc before (line ∷ rest) more
 
 -- an end record's line in the front
-pub ends_more : (rules : Rules) (front more other before : List (List ℕ)) (line : List ℕ) (behind : List (List ℕ)) → Ends rules (front ++ more) before line behind
+pub ends_more : (rules : Rules) (front more other before : List (List ℕ)) (line : List ℕ) (behind : List (List ℕ))
+    → Ends rules (front ++ more) before line behind
     → length before < length front → (rest : List (List ℕ)) × Ends rules (front ++ other) before line rest
 ends_more rules front more other before line behind ends h =
     let cut = front_cut front more before line behind ends.whole h in
     (cut.0 ++ other, record { whole = other_end front before line cut.0 other cut.1; open_before = ends.open_before; accepted = ends.accepted; ends = ends.ends })
 
 -- a first fault in the front
-pub first_fault_more : (rules : Rules) (tail : Tail) (front more other : List (List ℕ)) {line : ℕ} {fault : HexFault} → FirstFault rules tail (front ++ more) line fault
+pub first_fault_more : (rules : Rules) (tail : Tail) (front more other : List (List ℕ)) {line : ℕ} {fault : HexFault}
+    → FirstFault rules tail (front ++ more) line fault
     → line ≤ length front → FirstFault rules tail (front ++ other) line fault
 first_fault_more rules tail front more other (of_line before line behind fault whole all_open faulty) h =
     let cut = front_cut front more before line behind whole (omega arith) in
@@ -79,7 +82,8 @@ fronts_of text more = let pieces = pieces_of text in
       );
     }
 
-pub end_stays : (rules : Rules) (text more : List ℕ) → (ended : HasEnded rules text) → (rest : List (List ℕ)) × Ends rules (lines_of (text ++ more)) ended.0 ended.1 rest
+pub end_stays : (rules : Rules) (text more : List ℕ) → (ended : HasEnded rules text)
+    → (rest : List (List ℕ)) × Ends rules (lines_of (text ++ more)) ended.0 ended.1 rest
 end_stays rules text more ended =
     let fronts = fronts_of text more in
     let ends = subst (λ lines. Ends rules lines ended.0 ended.1 ended.2) fronts.lines ended.3 in
@@ -92,7 +96,8 @@ has_ended_more rules text more ended =
     let fronts = fronts_of text more in
     (ended.0, ended.1, rest.0, rest.1, omega (arith, fronts.more_feeds, ended.4))
 
-pub faults_within_more : (rules : Rules) (tail : Tail) (text more : List ℕ) (line : ℕ) (fault : HexFault) → FaultsWithin rules tail text line fault
+pub faults_within_more : (rules : Rules) (tail : Tail) (text more : List ℕ) (line : ℕ) (fault : HexFault)
+    → FaultsWithin rules tail text line fault
     → FaultsWithin rules tail (text ++ more) line fault
 faults_within_more rules tail text more line fault faults =
     let fronts = fronts_of text more in
@@ -100,7 +105,8 @@ faults_within_more rules tail text more line fault faults =
     let further = first_fault_more rules tail fronts.front fronts.last fronts.further first (omega (arith, fronts.size, faults.1)) in
     (subst (λ lines. FirstFault rules tail lines line fault) (sym fronts.more_lines) further, omega (arith, fronts.more_feeds, faults.1))
 
-pub tells_more : (rules : Rules) (tail : Tail) (text more : List ℕ) (error : HexError) → TellsFront rules tail text error → TellsFront rules tail (text ++ more) error
+pub tells_more : (rules : Rules) (tail : Tail) (text more : List ℕ) (error : HexError)
+    → TellsFront rules tail text error → TellsFront rules tail (text ++ more) error
 tells_more rules tail text more (Bad line fault) tells = faults_within_more rules tail text more line fault tells
 tells_more rules tail text more Memory tells = tt
 
@@ -118,5 +124,6 @@ none_behind_end rules tail text more line fault second ended faults =
     let rest = end_stays rules text more ended in
     no_fault_behind rules tail (lines_of (text ++ more)) ended.0 ended.1 rest.0 rest.1 second faults.0
 
-pub faultless_end : (rules : Rules) (text : List ℕ) (line : ℕ) (fault : HexFault) → HasEnded rules text → FirstFault rules Second (lines_of text) line fault → ⊥
+pub faultless_end : (rules : Rules) (text : List ℕ) (line : ℕ) (fault : HexFault) → HasEnded rules text
+    → FirstFault rules Second (lines_of text) line fault → ⊥
 faultless_end rules text line fault ended = no_fault_behind rules Second (lines_of text) ended.0 ended.1 ended.2 ended.3 refl

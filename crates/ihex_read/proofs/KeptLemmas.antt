@@ -83,7 +83,8 @@ either_true : (a b : Bool) → b ≡ true → (a || b) ≡ true
 either_true true b h = refl
 either_true false b h = h
 
-mirror_barred : (lo hi : ℕ) (mirror : Option (ℕ × ℕ)) (at : ℕ) → lies_in_mirror mirror at ≡ true → is_misplaced (Msp430 lo hi mirror) at ≡ true
+mirror_barred : (lo hi : ℕ) (mirror : Option (ℕ × ℕ)) (at : ℕ) → lies_in_mirror mirror at ≡ true
+    → is_misplaced (Msp430 lo hi mirror) at ≡ true
 mirror_barred lo hi mirror at there = either_true (lies_in 0 511 at || lies_in lo hi at) (lies_in_mirror mirror at) there
 
 both_there : (a b : Bool) → not (a && b) ≡ false → (a ≡ true) × (b ≡ true)

@@ -80,7 +80,8 @@ behind_end rules Blank lines before line behind image ends placed = elim (blank_
 
 -- at a line behind open ones
 at_line : (rules : Rules) (tail : Tail) (rest lines before : List (List ℕ)) (line : List ℕ) (base : ℕ) (image : List (Option ℕ))
-    (told : Option HexFault) → fault_of rules before line ≡ told → (end_record : Bool) → is_end line ≡ end_record → lines ≡ before ++ line ∷ rest
+    (told : Option HexFault) → fault_of rules before line ≡ told → (end_record : Bool) → is_end line ≡ end_record
+    → lines ≡ before ++ line ∷ rest
     → IsOpen rules before → Made before base image
     → ((next : List (List ℕ)) (new_base : ℕ) (new_image : List (Option ℕ)) → lines ≡ next ++ rest → IsOpen rules next → Made next new_base new_image
     → Outcome rules tail lines)
@@ -94,7 +95,8 @@ at_line rules tail rest lines before line base image None accepted false ends wh
     let more = made_line rules before line base image made accepted in
     go (before ++ line ∷ []) more.0 more.1 (whole ∙ sym (append_assoc before (line ∷ []) rest)) (open_more rules before line all_open accepted ends) more.2
 
-outcome_from : (rules : Rules) (tail : Tail) (rest lines before : List (List ℕ)) (base : ℕ) (image : List (Option ℕ)) → lines ≡ before ++ rest
+outcome_from : (rules : Rules) (tail : Tail) (rest lines before : List (List ℕ)) (base : ℕ) (image : List (Option ℕ))
+    → lines ≡ before ++ rest
     → IsOpen rules before → Made before base image → Outcome rules tail lines
 outcome_from rules tail [] lines before base image whole all_open made =
     inr (inl (length lines + 1, NoEnd, no_end (subst (IsOpen rules) (sym (whole ∙ append-nil before)) all_open)))
@@ -130,7 +132,8 @@ not_both rules tail lines image denoted (trailing before line blank more behind 
     more_there (not_blank blank behind more (subst (All (λ l. l ≡ [])) (sym same.2) all_blank))
 
 -- one image
-same_place : (first second : Option ℕ) → ((value : ℕ) → first ≡ Some value → second ≡ Some value) → ((value : ℕ) → second ≡ Some value → first ≡ Some value)
+same_place : (first second : Option ℕ) → ((value : ℕ) → first ≡ Some value → second ≡ Some value)
+    → ((value : ℕ) → second ≡ Some value → first ≡ Some value)
     → first ≡ second
 same_place None None there back = refl
 same_place None (Some v) there back = back v refl
@@ -154,7 +157,8 @@ one_image rules tail lines image other one two =
     same_image image other one.0 one.5 (subst (IsImage other) (sym same.0) two.5)
 
 -- one first fault
-two_faulty : (rules : Rules) (b₁ b₂ : List (List ℕ)) (x₁ x₂ : List ℕ) (r₁ r₂ : List (List ℕ)) (f₁ f₂ : HexFault) → b₁ ++ x₁ ∷ r₁ ≡ b₂ ++ x₂ ∷ r₂
+two_faulty : (rules : Rules) (b₁ b₂ : List (List ℕ)) (x₁ x₂ : List ℕ) (r₁ r₂ : List (List ℕ)) (f₁ f₂ : HexFault)
+    → b₁ ++ x₁ ∷ r₁ ≡ b₂ ++ x₂ ∷ r₂
     → IsOpen rules b₁ → IsOpen rules b₂ → fault_of rules b₁ x₁ ≡ Some f₁ → fault_of rules b₂ x₂ ≡ Some f₂
     → (length b₁ + 1 ≡ length b₂ + 1) × (f₁ ≡ f₂)
 two_faulty rules b₁ b₂ x₁ x₂ r₁ r₂ f₁ f₂ same open₁ open₂ faulty₁ faulty₂ = elim (cases_lt (length b₁) (length b₂)) [
@@ -165,7 +169,8 @@ two_faulty rules b₁ b₂ x₁ x₂ r₁ r₂ f₁ f₂ same open₁ open₂ fa
   ]
 ]
 
-faulty_among_open : (rules : Rules) (lines before : List (List ℕ)) (line : List ℕ) (behind : List (List ℕ)) (fault : HexFault) → lines ≡ before ++ line ∷ behind
+faulty_among_open : (rules : Rules) (lines before : List (List ℕ)) (line : List ℕ) (behind : List (List ℕ)) (fault : HexFault)
+    → lines ≡ before ++ line ∷ behind
     → fault_of rules before line ≡ Some fault → IsOpen rules lines → ⊥
 faulty_among_open rules lines before line behind fault whole faulty all_open =
     let fits : length before < length lines = omega (arith, ap length whole, length-append before (line ∷ behind)) in
@@ -180,7 +185,8 @@ same_front (x ∷ xs) (y ∷ ys) behind₁ behind₂ more₁ more₂ all₁ all�
     let rest = same_front xs ys behind₁ behind₂ more₁ more₂ (All-tail (λ l. l ≡ []) x xs all₁) (All-tail (λ l. l ≡ []) y ys all₂) not₁ not₂ (cc e) in
     omega (arith, rest)
 
-pub one_fault : (rules : Rules) (tail : Tail) (lines : List (List ℕ)) {line other_line : ℕ} {fault other : HexFault} → FirstFault rules tail lines line fault
+pub one_fault : (rules : Rules) (tail : Tail) (lines : List (List ℕ)) {line other_line : ℕ} {fault other : HexFault}
+    → FirstFault rules tail lines line fault
     → FirstFault rules tail lines other_line other → (line ≡ other_line) × (fault ≡ other)
 one_fault rules tail lines (of_line b₁ x₁ r₁ f₁ w₁ open₁ h₁) (of_line b₂ x₂ r₂ f₂ w₂ open₂ h₂) =
     two_faulty rules b₁ b₂ x₁ x₂ r₁ r₂ f₁ f₂ (sym w₁ ∙ w₂) open₁ open₂ h₁ h₂

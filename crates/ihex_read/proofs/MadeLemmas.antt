@@ -20,14 +20,16 @@ use Rattle.ihex_read.proofs.PlacingLemmas.{outside-row}
 use Rattle.ihex_read.proofs.WrittenLemmas.{Holds, clashes-taken, has_byte-some, row_written, length-written}
 use Rattle.ihex_read.specs.TextFacts.{base_from-append, placed_from-append}
 
-base_from-push : (base : ℕ) (lines : List (List ℕ)) (line : List ℕ) → base_from base (lines ++ line ∷ []) ≡ base_behind (base_from base lines) (record_of line)
+base_from-push : (base : ℕ) (lines : List (List ℕ)) (line : List ℕ)
+    → base_from base (lines ++ line ∷ []) ≡ base_behind (base_from base lines) (record_of line)
 base_from-push base lines line = base_from-append base lines (line ∷ [])
 
 placed_from-push : (base : ℕ) (lines : List (List ℕ)) (line : List ℕ)
     → placed_from base (lines ++ line ∷ []) ≡ placed_from base lines ++ placed_by (base_from base lines) (record_of line)
 placed_from-push base lines line = placed_from-append base lines (line ∷ []) ∙ ap (λ places. placed_from base lines ++ places) (append-nil _)
 
-pub placed_of-push : (lines : List (List ℕ)) (line : List ℕ) → placed_of (lines ++ line ∷ []) ≡ placed_of lines ++ placed_by (base_of lines) (record_of line)
+pub placed_of-push : (lines : List (List ℕ)) (line : List ℕ)
+    → placed_of (lines ++ line ∷ []) ≡ placed_of lines ++ placed_by (base_of lines) (record_of line)
 placed_of-push lines line = placed_from-push 0 lines line
 
 -- no line makes an empty image
@@ -44,7 +46,8 @@ any_same : {X : Type 0} (p q : X → Bool) (xs : List X) → ((x : X) → p x �
 any_same p q [] h = refl
 any_same p q (x ∷ xs) h = rw (h x, any_same p q xs h) refl
 
-resets : (rules : Rules) (image : List (Option ℕ)) (placed : List (ℕ × ℕ)) → Holds image placed → lacks_reset rules placed ≡ not (is_resettable rules image)
+resets : (rules : Rules) (image : List (Option ℕ)) (placed : List (ℕ × ℕ)) → Holds image placed
+    → lacks_reset rules placed ≡ not (is_resettable rules image)
 resets (Msp430 lo hi mirror) image placed holds = rw (has_byte-some image placed 65534 holds, has_byte-some image placed 65535 holds) refl
 resets Mcs51 image placed holds = refl
 
@@ -75,7 +78,8 @@ within : (start n : ℕ) → (nat_lt 0 n && nat_lt 65536 (start + n)) ≡ false 
 within start n h some = grind (arith, nat_tests)
 
 -- what a record places, written to the image
-placed_more : (image : List (Option ℕ)) (placed : List (ℕ × ℕ)) (data_record : Bool) (start : ℕ) (bytes : List ℕ) → Holds image placed → length image ≡ 65536
+placed_more : (image : List (Option ℕ)) (placed : List (ℕ × ℕ)) (data_record : Bool) (start : ℕ) (bytes : List ℕ)
+    → Holds image placed → length image ≡ 65536
     → let places = if data_record then enumerate_from start bytes else [] in
     list_any is_outside places ≡ false → list_any (is_taken image) places ≡ false → Holds (written image places) (placed ++ places)
 placed_more image placed false start bytes holds size inside free = rw append-nil holds
@@ -106,7 +110,8 @@ made_blank lines [] base image made empty = made_more Mcs51 lines [] base image 
 made_blank lines (b ∷ bytes) base image made empty = absurd (omega arith)
 
 -- a fault that the line has by itself
-pub fault_alone : (rules : Rules) (lines : List (List ℕ)) (line : List ℕ) (base : ℕ) (image : List (Option ℕ)) (fault : HexFault) → Made lines base image
+pub fault_alone : (rules : Rules) (lines : List (List ℕ)) (line : List ℕ) (base : ℕ) (image : List (Option ℕ)) (fault : HexFault)
+    → Made lines base image
     → 0 < length line → Some fault ≡ alone_fault line → Some fault ≡ fault_of rules lines line
 fault_alone rules lines line base image fault made some alone =
     ap (λ first. option_or first (placing_fault rules base image (record_of line))) alone ∙ sym (fault-made rules lines line base image made some)
@@ -131,7 +136,8 @@ made_accepted (Ok x) rules lines line bytes base new_base image new_image made r
     rw (new_base_is, new_image_is) more
 
 -- an end record places nothing
-pub placed_of-end : (before : List (List ℕ)) (line : List ℕ) → type_of (record_of line) ≡ 1 → placed_of (before ++ line ∷ []) ≡ placed_of before
+pub placed_of-end : (before : List (List ℕ)) (line : List ℕ) → type_of (record_of line) ≡ 1
+    → placed_of (before ++ line ∷ []) ≡ placed_of before
 placed_of-end before line one = placed_of-push before line
     ∙ ap (λ n. placed_of before ++ (if n == 0 then enumerate_from (base_of before + offset_of (record_of line)) (data_of (record_of line)) else [])) one
     ∙ append-nil (placed_of before)

@@ -53,7 +53,8 @@ pub lines_of-joined_end : (whole : List (List ℕ)) (begun : List ℕ) → IsCut
     → lines_of (joined whole begun) ≡ map without_return whole ++ last_line begun
 lines_of-joined_end whole begun cut = ap lines_of (sym (append-nil (joined whole begun))) ∙ lines_of-joined whole begun [] cut
 
-pub feeds_of-joined : (whole : List (List ℕ)) (begun more : List ℕ) → IsCut whole begun → feeds_of (joined whole begun ++ more) ≡ length whole + feeds_of more
+pub feeds_of-joined : (whole : List (List ℕ)) (begun more : List ℕ) → IsCut whole begun
+    → feeds_of (joined whole begun ++ more) ≡ length whole + feeds_of more
 feeds_of-joined [] begun more cut = omega (arith, feeds_of-append begun more, cut.last)
 feeds_of-joined (line ∷ whole) begun more cut =
     let first : feeds_of line ≡ 0 = All-head IsUnbroken line whole cut.each in
@@ -78,7 +79,8 @@ other_byte b bytes h rest = feeds_of-cons b bytes ∙ ap (λ feed. (if feed then
 is_ten : (b : ℕ) → (b == 10) ≡ true → b ≡ 10
 is_ten b h = grind (arith, nat_tests)
 
-one_more : (b : ℕ) (text : List ℕ) (whole : List (List ℕ)) (begun : List ℕ) → IsCut whole begun → text ≡ joined whole begun → (feed : Bool) → (b == 10) ≡ feed
+one_more : (b : ℕ) (text : List ℕ) (whole : List (List ℕ)) (begun : List ℕ) → IsCut whole begun
+    → text ≡ joined whole begun → (feed : Bool) → (b == 10) ≡ feed
     → Pieces (b ∷ text)
 one_more b text whole begun cut is true feed = record {
   whole = [] ∷ whole;
@@ -113,7 +115,8 @@ unbroken_by : (text : List ℕ) → ((k : ℕ) → k < length text → is_feed (
 unbroken_by [] h = refl
 unbroken_by (b ∷ text) h = other_byte b text (h 0 (omega arith)) (unbroken_by text (λ k less. h (suc k) (omega arith)))
 
-front_by : (text : List ℕ) (at : ℕ) → at < length text → is_feed (get_or text at 0) ≡ true → ((k : ℕ) → k < at → is_feed (get_or text k 0) ≡ false)
+front_by : (text : List ℕ) (at : ℕ) → at < length text → is_feed (get_or text at 0) ≡ true
+    → ((k : ℕ) → k < at → is_feed (get_or text k 0) ≡ false)
     → (feeds_of (take at text) ≡ 0) × (take (suc at) text ≡ take at text ++ 10 ∷ [])
 front_by [] at h here before = absurd (omega arith)
 front_by (b ∷ text) zero h here before = let ten = is_ten b here in (refl, rw ten refl)

@@ -9,7 +9,8 @@ use Rattle.image.specs.Kept.{lies_in, lies_in_mirror}
 use Rattle.ihex_read.specs.ImageText.{is_misplaced}
 use Rattle.ihex_read.specs.Loading.{is_outside, differs}
 
-outside_step : (start n m : ℕ) → m ≡ start + 1 + n → (nat_lt 65535 start || (nat_lt 0 n && nat_lt 65536 (start + 1 + n))) ≡ (nat_lt 0 (suc n) && nat_lt 65536 m)
+outside_step : (start n m : ℕ) → m ≡ start + 1 + n
+    → (nat_lt 65535 start || (nat_lt 0 n && nat_lt 65536 (start + 1 + n))) ≡ (nat_lt 0 (suc n) && nat_lt 65536 m)
 outside_step start n m e = grind (arith, nat_tests)
 
 -- some byte of a row stands above FFFFh where the last one does
@@ -43,7 +44,8 @@ either_step false true false d = refl
 either_step false false c d = refl
 
 -- some byte passes one of two tests where some byte passes the first or some byte the second
-pub any_either : (p q : ℕ × ℕ → Bool) (bytes : List (ℕ × ℕ)) → list_any (λ byte. p byte || q byte) bytes ≡ (list_any p bytes || list_any q bytes)
+pub any_either : (p q : ℕ × ℕ → Bool) (bytes : List (ℕ × ℕ))
+    → list_any (λ byte. p byte || q byte) bytes ≡ (list_any p bytes || list_any q bytes)
 any_either p q [] = refl
 any_either p q (byte ∷ bytes) =
     ap (λ t. (p byte || q byte) || t) (any_either p q bytes) ∙ either_step (p byte) (q byte) (list_any p bytes) (list_any q bytes)

@@ -43,7 +43,8 @@ over_size : (rules : Rules) (tail : Tail) (lines : List (List ℕ)) (image : Lis
 over_size rules tail lines image over = omega (arith, ap length over.ends.whole, length-append over.before (over.line ∷ over.behind))
 
 -- nor in lines that were accepted up to an end record's and behind it
-over_no_fault : (rules : Rules) (tail : Tail) (lines more : List (List ℕ)) (image : List (Option ℕ)) {line : ℕ} {fault : HexFault} → IsOver rules tail lines image
+over_no_fault : (rules : Rules) (tail : Tail) (lines more : List (List ℕ)) (image : List (Option ℕ)) {line : ℕ} {fault : HexFault}
+    → IsOver rules tail lines image
     → FirstFault rules tail (lines ++ more) line fault → line ≤ length lines → ⊥
 over_no_fault rules tail lines more image over (of_line before line behind fault whole open_before faulty) h =
     no_end_behind_fault rules (lines ++ more) before over.before line over.line behind (over.behind ++ more) fault whole open_before (sym faulty)
@@ -90,7 +91,8 @@ going_not_ended rules whole begun base image cut going ended =
     let fits : length ended.0 < length (map without_return whole) = omega (arith, ended.4, feeds_of-joined_end whole begun cut, length-map whole without_return) in
     both_ends (is_end ended.1) ends.ends (among_open rules ended.0 (map without_return whole) ended.1 ended.2 (last_line begun) (sym ends.whole) fits going.all_open).1
 
-stands_ended : (rules : Rules) (tail : Tail) (whole : List (List ℕ)) (begun : List ℕ) (ended : Bool) (base : ℕ) (image : List (Option ℕ)) → IsCut whole begun
+stands_ended : (rules : Rules) (tail : Tail) (whole : List (List ℕ)) (begun : List ℕ) (ended : Bool) (base : ℕ) (image : List (Option ℕ))
+    → IsCut whole begun
     → Stands rules tail (map without_return whole) ended base image → (ended ≡ true) ↔ HasEnded rules (joined whole begun)
 stands_ended rules tail whole begun true base image cut over = (λ is. over_has_ended rules tail whole begun image cut over, λ has. refl)
 stands_ended rules tail whole begun false base image cut going = (λ is. cc is, λ has. absurd (going_not_ended rules whole begun base image cut going has))
@@ -107,7 +109,8 @@ some_last_line [] h = absurd (omega arith)
 some_last_line (b ∷ bytes) h = refl
 
 -- more bytes without a line feed make one line more than there are line feeds
-lines_of-unbroken : (text more : List ℕ) → feeds_of more ≡ 0 → 0 < length more → length (lines_of (text ++ more)) ≡ feeds_of (text ++ more) + 1
+lines_of-unbroken : (text more : List ℕ) → feeds_of more ≡ 0 → 0 < length more
+    → length (lines_of (text ++ more)) ≡ feeds_of (text ++ more) + 1
 lines_of-unbroken text more unbroken some =
     let pieces = pieces_of text in
     let cut : IsCut pieces.whole (pieces.begun ++ more) = record { each = pieces.cut.each; last = omega (arith, feeds_of-append pieces.begun more, pieces.cut.last) } in
@@ -141,8 +144,10 @@ first_end rules whole image k cut over h ended =
     let longer = lines_of-unbroken (take k text) (drop k text) unbroken (omega (arith, length-drop k text)) in
     omega (arith, longer, ap (λ t. length (lines_of t)) parts, ap feeds_of parts, ap length lines, feeds, length-map whole without_return)
 
-second_first_end : (rules : Rules) (tail : Tail) (whole : List (List ℕ)) (begun : List ℕ) (image : List (Option ℕ)) (k : ℕ) → tail ≡ Second → IsCut whole begun
-    → begun ≡ [] → IsOver rules tail (map without_return whole) image → k < length (joined whole begun) → HasEnded rules (take k (joined whole begun)) → ⊥
+second_first_end : (rules : Rules) (tail : Tail) (whole : List (List ℕ)) (begun : List ℕ) (image : List (Option ℕ)) (k : ℕ)
+    → tail ≡ Second → IsCut whole begun
+    → begun ≡ [] → IsOver rules tail (map without_return whole) image → k < length (joined whole begun)
+    → HasEnded rules (take k (joined whole begun)) → ⊥
 second_first_end rules Second whole [] image k second cut empty over h ended = first_end rules whole image k cut over h ended
 second_first_end rules Blank whole begun image k second cut empty over h ended = cc second
 second_first_end rules Second whole (b ∷ begun) image k second cut empty over h ended = cc empty
@@ -153,7 +158,8 @@ no_going Blank second goes = cc second
 
 -- with a second text behind it, no front of the text had ended
 pub read_first_end : (rules : Rules) (tail : Tail) (whole : List (List ℕ)) (begun : List ℕ) (ended : Bool) (base : ℕ) (image : List (Option ℕ)) (k : ℕ)
-    → HasRead rules tail whole begun ended base image → tail ≡ Second → k < length (joined whole begun) → HasEnded rules (take k (joined whole begun)) → ⊥
+    → HasRead rules tail whole begun ended base image → tail ≡ Second → k < length (joined whole begun)
+    → HasEnded rules (take k (joined whole begun)) → ⊥
 read_first_end rules tail whole begun false base image k read second h ended =
     let text = joined whole begun in
     let longer = has_ended_more rules (take k text) (drop k text) ended in
@@ -162,8 +168,10 @@ read_first_end rules tail whole begun true base image k read second h ended =
     second_first_end rules tail whole begun image k second read.cut (read.rest (no_going tail second)) read.stands h ended
 
 -- where the text goes on
-pub goes_on : (rules : Rules) (tail : Tail) (whole : List (List ℕ)) (begun : List ℕ) (ended : Bool) (base : ℕ) (image : List (Option ℕ)) → IsCut whole begun
-    → Stands rules tail (map without_return whole) ended base image → (tail ≡ Second → HasEnded rules (joined whole begun) → ⊥) → GoesOn tail ended
+pub goes_on : (rules : Rules) (tail : Tail) (whole : List (List ℕ)) (begun : List ℕ) (ended : Bool) (base : ℕ) (image : List (Option ℕ))
+    → IsCut whole begun
+    → Stands rules tail (map without_return whole) ended base image
+    → (tail ≡ Second → HasEnded rules (joined whole begun) → ⊥) → GoesOn tail ended
 goes_on rules Second whole begun true base image cut over going = going refl (over_has_ended rules Second whole begun image cut over)
 goes_on rules Blank whole begun true base image cut over going = tt
 goes_on rules Blank whole begun false base image cut stands going = tt
@@ -187,7 +195,8 @@ joined-more whole begun =
 
 -- the line feed of the line that has begun
 pub read_line : (rules : Rules) (tail : Tail) (whole : List (List ℕ)) (begun : List ℕ) (ended new_ended : Bool) (base new_base : ℕ) (image new_image : List (Option ℕ))
-    → HasRead rules tail whole begun ended base image → Stands rules tail (map without_return whole ++ without_return begun ∷ []) new_ended new_base new_image
+    → HasRead rules tail whole begun ended base image
+    → Stands rules tail (map without_return whole ++ without_return begun ∷ []) new_ended new_base new_image
     → length (joined whole begun) < 4194304 → HasRead rules tail (whole ++ begun ∷ []) [] new_ended new_base new_image
 read_line rules tail whole begun ended new_ended base new_base image new_image read stands room = record {
   cut = record { each = All-push IsUnbroken whole begun read.cut.each read.cut.last; last = refl };
@@ -231,14 +240,16 @@ read_count (line ∷ whole) begun = omega (
 )
 
 -- a list without the element that was pushed
-pub popped : {A : Type 0} (before pushed after : List A) (x : A) (n : ℕ) → pushed ≡ before ++ x ∷ [] → n ≡ length pushed → after ≡ take (n - 1) pushed
+pub popped : {A : Type 0} (before pushed after : List A) (x : A) (n : ℕ) → pushed ≡ before ++ x ∷ [] → n ≡ length pushed
+    → after ≡ take (n - 1) pushed
     → after ≡ before
 popped before pushed after x n push size pop =
     let is : n - 1 ≡ length before = omega (arith, size, ap length push, length-append before (x ∷ [])) in
     pop ∙ ap (λ k. take k pushed) is ∙ ap (take (length before)) push ∙ take-append_seam before (x ∷ [])
 
 -- as many whole lines as there were, and one
-pub pushed_count : {A : Type 0} (line_of : A → List ℕ) (before pushed : List A) (x : A) (n size : ℕ) → pushed ≡ before ++ x ∷ [] → n ≡ size → size ≡ length pushed
+pub pushed_count : {A : Type 0} (line_of : A → List ℕ) (before pushed : List A) (x : A) (n size : ℕ)
+    → pushed ≡ before ++ x ∷ [] → n ≡ size → size ≡ length pushed
     → n ≡ length (map line_of before) + 1
 pushed_count line_of before pushed x n size push count is =
     omega (arith, count, is, ap length push, length-append before (x ∷ []), length-map before line_of)
@@ -273,7 +284,8 @@ tells_line rules tail text (byte ∷ piece) error h is tells =
     let whole : (text ++ 10 ∷ []) ++ piece ≡ text ++ byte ∷ piece = append_assoc text (10 ∷ []) piece ∙ ap (λ b. text ++ b ∷ piece) (sym is) in
     subst (λ t. TellsFront rules tail t error) whole (tells_more rules tail (text ++ 10 ∷ []) piece error tells)
 
-pub count_lines : {A : Type 0} (line_of : A → List ℕ) (items : List A) (n size : ℕ) → n ≡ size → size ≡ length items → n ≡ length (map line_of items)
+pub count_lines : {A : Type 0} (line_of : A → List ℕ) (items : List A) (n size : ℕ) → n ≡ size → size ≡ length items
+    → n ≡ length (map line_of items)
 count_lines line_of items n size count is = count ∙ is ∙ sym (length-map items line_of)
 
 pub read_small : (rules : Rules) (tail : Tail) (whole : List (List ℕ)) (begun : List ℕ) (ended : Bool) (base : ℕ) (image : List (Option ℕ))
@@ -288,14 +300,16 @@ end_feed rules tail whole (b ∷ begun) ended base image read empty = absurd (om
 
 -- and one that doesn't
 pub end_line : (rules : Rules) (tail : Tail) (whole : List (List ℕ)) (begun : List ℕ) (ended : Bool) (base : ℕ) (image : List (Option ℕ))
-    → HasRead rules tail whole begun ended base image → 0 < length begun → lines_of (joined whole begun) ≡ map without_return whole ++ without_return begun ∷ []
+    → HasRead rules tail whole begun ended base image → 0 < length begun
+    → lines_of (joined whole begun) ≡ map without_return whole ++ without_return begun ∷ []
 end_line rules tail whole [] ended base image read some = absurd (omega arith)
 end_line rules tail whole (b ∷ begun) ended base image read some = lines_of-joined_end whole (b ∷ begun) read.cut
 
 nothing_begun : (begun : List ℕ) → begun ≡ [] → 0 < length begun → ⊥
 nothing_begun begun e some = omega (arith, ap length e)
 
-begun_goes_on : (tail : Tail) (ended : Bool) (begun : List ℕ) → ((GoesOn tail ended → ⊥) → begun ≡ []) → 0 < length begun → GoesOn tail ended
+begun_goes_on : (tail : Tail) (ended : Bool) (begun : List ℕ) → ((GoesOn tail ended → ⊥) → begun ≡ [])
+    → 0 < length begun → GoesOn tail ended
 begun_goes_on Second true begun rest some = nothing_begun begun (rest (λ goes. goes)) some
 begun_goes_on Blank true begun rest some = tt
 begun_goes_on Blank false begun rest some = tt
@@ -317,11 +331,13 @@ end_bad rules tail whole begun ended base image fault count read some faulty num
     (next_first rules tail (map without_return whole) (without_return begun) [] ended base image fault read.stands
     (end_goes_on rules tail whole begun ended base image read some) faulty)
 
-pub end_count : (whole : List (List ℕ)) (begun : List ℕ) (count : ℕ) → count ≡ length whole → count + 1 ≡ length (map without_return whole ++ without_return begun ∷ [])
+pub end_count : (whole : List (List ℕ)) (begun : List ℕ) (count : ℕ) → count ≡ length whole
+    → count + 1 ≡ length (map without_return whole ++ without_return begun ∷ [])
 end_count whole begun count number = omega (arith, number, length-map whole without_return, length-append (map without_return whole) (without_return begun ∷ []))
 
 -- a further front of the piece
-pub more_text : (text piece : List ℕ) (used count : ℕ) → (text ++ take used piece) ++ take count (take (length piece - used) (drop used piece)) ≡ text ++ take (used + count) piece
+pub more_text : (text piece : List ℕ) (used count : ℕ)
+    → (text ++ take used piece) ++ take count (take (length piece - used) (drop used piece)) ≡ text ++ take (used + count) piece
 more_text text piece used count = rw take_rest
     (append_assoc text (take used piece) (take count (drop used piece)) ∙ ap (λ t. text ++ t) (sym (take-add used count piece)))
 
@@ -337,7 +353,8 @@ none_in_all rules tail text piece used all none line fault faults =
     none line fault (subst (λ t. FaultsWithin rules tail (text ++ t) line fault) (sym (take_all used piece all)) faults)
 
 -- nor where a second text begins in the piece
-pub none_behind : (rules : Rules) (tail : Tail) (text piece : List ℕ) (used : ℕ) → (tail ≡ Second) × HasEnded rules (text ++ take used piece)
+pub none_behind : (rules : Rules) (tail : Tail) (text piece : List ℕ) (used : ℕ)
+    → (tail ≡ Second) × HasEnded rules (text ++ take used piece)
     → (line : ℕ) (fault : HexFault) → FaultsWithin rules tail (text ++ piece) line fault → ⊥
 none_behind rules tail text piece used done line fault faults =
     none_behind_end rules tail (text ++ take used piece) (drop used piece) line fault done.0 done.1

@@ -21,8 +21,10 @@ used_more : (tail : Tail) (behind : List (List ℕ)) → GoesOn tail true → Is
 used_more Blank behind goes used = All-push (λ line. line ≡ []) behind [] used refl
 used_more Second behind goes used = absurd goes
 
-pub over_more : (rules : Rules) (tail : Tail) (lines : List (List ℕ)) (line : List ℕ) (base : ℕ) (image : List (Option ℕ)) (ended : Bool) → ended ≡ true
-    → length line ≡ 0 → Stands rules tail lines ended base image → GoesOn tail ended → Stands rules tail (lines ++ line ∷ []) ended base image
+pub over_more : (rules : Rules) (tail : Tail) (lines : List (List ℕ)) (line : List ℕ) (base : ℕ) (image : List (Option ℕ)) (ended : Bool)
+    → ended ≡ true
+    → length line ≡ 0 → Stands rules tail lines ended base image → GoesOn tail ended
+    → Stands rules tail (lines ++ line ∷ []) ended base image
 over_more rules tail lines [] base image true is empty over goes = record {
   before = over.before;
   line = over.line;
@@ -101,13 +103,15 @@ used_tail Blank behind used = used
 used_tail Second behind used = used
 
 -- the image of lines with an end record
-pub over_image : (rules : Rules) (tail : Tail) (lines : List (List ℕ)) (base : ℕ) (image : List (Option ℕ)) (ended : Bool) → not ended ≡ false
+pub over_image : (rules : Rules) (tail : Tail) (lines : List (List ℕ)) (base : ℕ) (image : List (Option ℕ)) (ended : Bool)
+    → not ended ≡ false
     → Stands rules tail lines ended base image → Denotes rules tail lines image
 over_image rules tail lines base image true is over = (over.before, over.line, over.behind, over.ends, used_tail tail over.behind over.used, over.placed)
 over_image rules tail lines base image false is going = cc is
 
 -- the fault of lines without one
-pub going_fault : (rules : Rules) (tail : Tail) (lines : List (List ℕ)) (base : ℕ) (image : List (Option ℕ)) (ended : Bool) (count : ℕ) → not ended ≡ true
+pub going_fault : (rules : Rules) (tail : Tail) (lines : List (List ℕ)) (base : ℕ) (image : List (Option ℕ)) (ended : Bool) (count : ℕ)
+    → not ended ≡ true
     → Stands rules tail lines ended base image → count ≡ length lines → FirstFault rules tail lines (count + 1) NoEnd
 going_fault rules tail lines base image false count is going size = rw size (no_end going.all_open)
 going_fault rules tail lines base image true count is over size = cc is

@@ -34,7 +34,8 @@ same_cut (x ∷ b₁) (y ∷ b₂) l₁ l₂ r₁ r₂ e h =
     (cc (rest.0, head), rest.1, rest.2)
 
 -- a line among open ones is accepted, and is no end record
-pub among_open : (rules : Rules) (b₁ b₂ : List (List ℕ)) (line : List ℕ) (r₁ r₂ : List (List ℕ)) → b₁ ++ line ∷ r₁ ≡ b₂ ++ r₂ → length b₁ < length b₂
+pub among_open : (rules : Rules) (b₁ b₂ : List (List ℕ)) (line : List ℕ) (r₁ r₂ : List (List ℕ))
+    → b₁ ++ line ∷ r₁ ≡ b₂ ++ r₂ → length b₁ < length b₂
     → IsOpen rules b₂ → (fault_of rules b₁ line ≡ None) × (is_end line ≡ false)
 among_open rules b₁ b₂ line r₁ r₂ e h all_open =
     let place = prefix_at b₁ b₂ line r₁ r₂ e h in
@@ -42,7 +43,8 @@ among_open rules b₁ b₂ line r₁ r₂ e h all_open =
     (ap (λ b. fault_of rules b line) (sym place.0) ∙ ap (λ l. fault_of rules (take (length b₁) b₂) l) (sym place.1) ∙ facts.0, ap is_end (sym place.1) ∙ facts.1)
 
 -- the lines before the end record are determined
-pub one_end : (rules : Rules) (lines b₁ b₂ : List (List ℕ)) (l₁ l₂ : List ℕ) (r₁ r₂ : List (List ℕ)) → Ends rules lines b₁ l₁ r₁ → Ends rules lines b₂ l₂ r₂
+pub one_end : (rules : Rules) (lines b₁ b₂ : List (List ℕ)) (l₁ l₂ : List ℕ) (r₁ r₂ : List (List ℕ))
+    → Ends rules lines b₁ l₁ r₁ → Ends rules lines b₂ l₂ r₂
     → (b₁ ≡ b₂) × (l₁ ≡ l₂) × (r₁ ≡ r₂)
 one_end rules lines b₁ b₂ l₁ l₂ r₁ r₂ e₁ e₂ =
     let same = sym e₁.whole ∙ e₂.whole in
@@ -55,7 +57,8 @@ one_end rules lines b₁ b₂ l₁ l₂ r₁ r₂ e₁ e₂ =
     ]
 
 -- no end record is accepted behind a faulty line
-pub no_end_behind_fault : (rules : Rules) (lines b₁ b₂ : List (List ℕ)) (l₁ l₂ : List ℕ) (r₁ r₂ : List (List ℕ)) (fault : HexFault) → lines ≡ b₁ ++ l₁ ∷ r₁
+pub no_end_behind_fault : (rules : Rules) (lines b₁ b₂ : List (List ℕ)) (l₁ l₂ : List ℕ) (r₁ r₂ : List (List ℕ)) (fault : HexFault)
+    → lines ≡ b₁ ++ l₁ ∷ r₁
     → IsOpen rules b₁ → Some fault ≡ fault_of rules b₁ l₁ → Ends rules lines b₂ l₂ r₂ → ⊥
 no_end_behind_fault rules lines b₁ b₂ l₁ l₂ r₁ r₂ fault whole all_open faulty e₂ =
     let same = sym whole ∙ e₂.whole in
@@ -68,7 +71,8 @@ no_end_behind_fault rules lines b₁ b₂ l₁ l₂ r₁ r₂ fault whole all_op
     ]
 
 -- nor among open lines
-pub no_end_among_open : (rules : Rules) (lines before : List (List ℕ)) (line : List ℕ) (behind : List (List ℕ)) → IsOpen rules lines → Ends rules lines before line behind → ⊥
+pub no_end_among_open : (rules : Rules) (lines before : List (List ℕ)) (line : List ℕ) (behind : List (List ℕ))
+    → IsOpen rules lines → Ends rules lines before line behind → ⊥
 no_end_among_open rules lines before line behind all_open ends =
     let fits : length before < length lines = omega (arith, ap length ends.whole, length-append before (line ∷ behind)) in
     both_ends (is_end line) ends.ends (among_open rules before lines line behind [] (sym ends.whole ∙ sym (append-nil lines)) fits all_open).1

@@ -25,7 +25,8 @@ differs_held None value h = cc h
 differs_held (Some held) value h = (held, refl, h)
 
 -- a byte clashes with those that were placed where the image has another
-pub clashes-taken : (image : List (Option ℕ)) (placed : List (ℕ × ℕ)) (byte : ℕ × ℕ) → Holds image placed → clashes placed byte ≡ is_taken image byte
+pub clashes-taken : (image : List (Option ℕ)) (placed : List (ℕ × ℕ)) (byte : ℕ × ℕ) → Holds image placed
+    → clashes placed byte ≡ is_taken image byte
 clashes-taken image placed byte holds =
     let test : ℕ × ℕ → Bool = λ other. (other.0 == byte.0) && not (other.1 == byte.1) in
     both_ways _ _
@@ -48,7 +49,8 @@ some_held : (place : Option ℕ) → is_some place ≡ true → (held : ℕ) × 
 some_held None h = cc h
 some_held (Some held) h = (held, refl)
 
-pub has_byte-some : (image : List (Option ℕ)) (placed : List (ℕ × ℕ)) (at : ℕ) → Holds image placed → has_byte placed at ≡ is_some (byte_at image at)
+pub has_byte-some : (image : List (Option ℕ)) (placed : List (ℕ × ℕ)) (at : ℕ) → Holds image placed
+    → has_byte placed at ≡ is_some (byte_at image at)
 has_byte-some image placed at holds =
     let test : ℕ × ℕ → Bool = λ byte. byte.0 == at in
     both_ways _ _

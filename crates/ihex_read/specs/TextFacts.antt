@@ -12,14 +12,16 @@ pub base_from-append : (base : ℕ) (lines more : List (List ℕ)) → base_from
 base_from-append base [] more = refl
 base_from-append base (line ∷ lines) more = base_from-append (base_behind base (record_of line)) lines more
 
-pub placed_from-append : (base : ℕ) (lines more : List (List ℕ)) → placed_from base (lines ++ more) ≡ placed_from base lines ++ placed_from (base_from base lines) more
+pub placed_from-append : (base : ℕ) (lines more : List (List ℕ))
+    → placed_from base (lines ++ more) ≡ placed_from base lines ++ placed_from (base_from base lines) more
 placed_from-append base [] more = refl
 placed_from-append base (line ∷ lines) more =
     ap (λ bytes. placed_by base (record_of line) ++ bytes) (placed_from-append (base_behind base (record_of line)) lines more)
     ∙ sym (append_assoc (placed_by base (record_of line)) (placed_from (base_behind base (record_of line)) lines) _)
 
 -- open lines, and one more
-pub open_more : (rules : Rules) (before : List (List ℕ)) (line : List ℕ) → IsOpen rules before → fault_of rules before line ≡ None → is_end line ≡ false
+pub open_more : (rules : Rules) (before : List (List ℕ)) (line : List ℕ) → IsOpen rules before
+    → fault_of rules before line ≡ None → is_end line ≡ false
     → IsOpen rules (before ++ line ∷ [])
 open_more rules before line all_open accepted no_end k h = elim (cases_lt k (length before)) [
   | inl less ↦

@@ -25,7 +25,8 @@ one_along x y (range ∷ ranges) h k = elim (or_cases (lies_in y range) (lies_in
   | inr rest ↦ or_right (lies_in x range) (lies_in_one x ranges) (one_along x y ranges h rest)
 ]
 
-pub within_one : (x : ℕ × ℕ) (smaller larger : List (ℕ × ℕ)) → ranges_within smaller larger ≡ true → lies_in_one x smaller ≡ true → lies_in_one x larger ≡ true
+pub within_one : (x : ℕ × ℕ) (smaller larger : List (ℕ × ℕ)) → ranges_within smaller larger ≡ true
+    → lies_in_one x smaller ≡ true → lies_in_one x larger ≡ true
 within_one x [] larger h k = absurd (cc)
 within_one x (range ∷ ranges) larger h k =
     let parts = and_parts (lies_in_one range larger) (ranges_within ranges larger) h in
@@ -56,7 +57,8 @@ pub ranges_lower : (low from top : ℕ) (ranges : List (ℕ × ℕ)) → low ≤
 ranges_lower low from top [] h are = tt
 ranges_lower low from top (range ∷ ranges) h (a, b, c, rest) = (omega (arith, h, a), b, c, rest)
 
-pub with_range_form : (from top lo hi : ℕ) (ranges : List (ℕ × ℕ)) → from ≤ lo → lo ≤ hi → hi ≤ top → AreRanges from top ranges → AreRanges from top (with_range lo hi ranges)
+pub with_range_form : (from top lo hi : ℕ) (ranges : List (ℕ × ℕ)) → from ≤ lo → lo ≤ hi → hi ≤ top
+    → AreRanges from top ranges → AreRanges from top (with_range lo hi ranges)
 unfolding with_range
 with_range_form from top lo hi [] f o h are = (f, o, h, tt)
 with_range_form from top lo hi (range ∷ ranges) f o h (a, b, d, rest) =
@@ -82,7 +84,8 @@ in_added x lo hi (range ∷ ranges) h k =
     (λ g. in_added x (min lo range.0) (max hi range.1) ranges (omega (arith, h)) (omega (arith, k))))
 
 -- and so do those that were there
-pub in_others : (x : ℕ × ℕ) (lo hi : ℕ) (ranges : List (ℕ × ℕ)) → lies_in_one x ranges ≡ true → lies_in_one x (with_range lo hi ranges) ≡ true
+pub in_others : (x : ℕ × ℕ) (lo hi : ℕ) (ranges : List (ℕ × ℕ)) → lies_in_one x ranges ≡ true
+    → lies_in_one x (with_range lo hi ranges) ≡ true
 unfolding with_range
 in_others x lo hi [] h = absurd (cc)
 in_others x lo hi (range ∷ ranges) h =
@@ -147,7 +150,8 @@ added_has from top at lo hi (range ∷ ranges) o (a, b, d, rest) =
 
 -- TWO LISTS OF RANGES
 
-pub united_form : (lo hi : ℕ) (ranges others : List (ℕ × ℕ)) → AreRanges lo hi ranges → (from : ℕ) → lo ≤ from → AreRanges from hi others → AreRanges lo hi (united ranges others)
+pub united_form : (lo hi : ℕ) (ranges others : List (ℕ × ℕ)) → AreRanges lo hi ranges → (from : ℕ) → lo ≤ from
+    → AreRanges from hi others → AreRanges lo hi (united ranges others)
 united_form lo hi ranges [] are from h these = are
 united_form lo hi ranges (range ∷ others) are from h (a, b, d, rest) =
     united_form lo hi (with_range range.0 range.1 ranges) others
@@ -171,7 +175,8 @@ pub within_united_second : (a b : List (ℕ × ℕ)) → ranges_within b (united
 within_united_second a b = within_from b (united a b) (λ x. in_united_second x a b)
 
 -- all of them lie in one range
-pub within_whole : (from lo hi : ℕ) (ranges : List (ℕ × ℕ)) → lo ≤ from → AreRanges from hi ranges → ranges_within ranges ((lo, hi) ∷ []) ≡ true
+pub within_whole : (from lo hi : ℕ) (ranges : List (ℕ × ℕ)) → lo ≤ from → AreRanges from hi ranges
+    → ranges_within ranges ((lo, hi) ∷ []) ≡ true
 within_whole from lo hi [] h are = refl
 within_whole from lo hi (range ∷ ranges) h (a, b, d, rest) = and_from (lies_in range (lo, hi) || false) (ranges_within ranges ((lo, hi) ∷ []))
     (or_left (lies_in range (lo, hi)) false (lies_from range (lo, hi) (omega (arith, h, a)) d))
@@ -222,7 +227,8 @@ found_nowhere x (range ∷ ranges) le = elim (cases_Bool (nat_lt range.1 x.1)) [
       absurd (omega (arith, first, le))
 ]
 
-ends_least : (from top : ℕ) (ranges : List (ℕ × ℕ)) (j : ℕ) (d : ℕ × ℕ) → AreRanges from top ranges → j < length ranges → from ≤ (get_or ranges j d).1
+ends_least : (from top : ℕ) (ranges : List (ℕ × ℕ)) (j : ℕ) (d : ℕ × ℕ) → AreRanges from top ranges → j < length ranges
+    → from ≤ (get_or ranges j d).1
 ends_least from top [] j d are lt = absurd (omega arith)
 ends_least from top (range ∷ ranges) zero d (a, b, e, rest) lt = omega (arith, a, b)
 ends_least from top (range ∷ ranges) (suc j) d (a, b, e, rest) lt =
@@ -255,7 +261,8 @@ each_behind from top at [] h are = tt
 each_behind from top at (range ∷ ranges) h (a, b, e, rest) = (omega (arith, h, a, b), each_behind (range.1 + 2) top at ranges (omega (arith, h, a, b)) rest)
 
 -- the ranges in front of those that reach an address, and these
-pub reaching : (from top at lo : ℕ) (ranges : List (ℕ × ℕ)) → lo ≤ at + 1 → AreRanges from top ranges → EachReaches lo (drop (ends_below ranges at) ranges)
+pub reaching : (from top at lo : ℕ) (ranges : List (ℕ × ℕ)) → lo ≤ at + 1 → AreRanges from top ranges
+    → EachReaches lo (drop (ends_below ranges at) ranges)
 reaching from top at lo [] h are = tt
 reaching from top at lo (range ∷ ranges) h (a, b, e, rest) = elim (cases_Bool (nat_lt range.1 at)) [
   | inl before ↦
@@ -303,7 +310,8 @@ put_step items removed index low high range lt is gone reaches near =
     )
 
 -- the ranges in front of those that reach it stay in front
-skipped : (lo hi : ℕ) (ranges : List (ℕ × ℕ)) → take (ends_below ranges (lo - 1)) ranges ++ with_range lo hi (drop (ends_below ranges (lo - 1)) ranges) ≡ with_range lo hi ranges
+skipped : (lo hi : ℕ) (ranges : List (ℕ × ℕ))
+    → take (ends_below ranges (lo - 1)) ranges ++ with_range lo hi (drop (ends_below ranges (lo - 1)) ranges) ≡ with_range lo hi ranges
 unfolding with_range
 skipped lo hi [] = refl
 skipped lo hi (range ∷ ranges) = elim (cases_Bool (nat_lt range.1 (lo - 1))) [
@@ -320,14 +328,16 @@ skipped lo hi (range ∷ ranges) = elim (cases_Bool (nat_lt range.1 (lo - 1))) [
       ap (λ i. take i (range ∷ ranges) ++ with_range lo hi (drop i (range ∷ ranges))) first
 ]
 
-pub added_items : (before reserved viewed after : List (ℕ × ℕ)) (index at lo hi : ℕ) → reserved ≡ before → viewed ≡ reserved → index ≡ ends_below viewed at → at ≡ lo - 1
+pub added_items : (before reserved viewed after : List (ℕ × ℕ)) (index at lo hi : ℕ) → reserved ≡ before
+    → viewed ≡ reserved → index ≡ ends_below viewed at → at ≡ lo - 1
     → after ≡ take index reserved ++ with_range lo hi (drop index reserved) → after ≡ with_range lo hi before
 added_items before reserved viewed after index at lo hi same seen place under put =
     let place_is : index ≡ ends_below before (lo - 1) = place ∙ ap (λ ranges. ends_below ranges at) (seen ∙ same) ∙ ap (ends_below before) under in
     put ∙ ap (λ ranges. take index ranges ++ with_range lo hi (drop index ranges)) same
     ∙ ap (λ i. take i before ++ with_range lo hi (drop i before)) place_is ∙ skipped lo hi before
 
-pub each_goes_up : (from top : ℕ) (ranges : List (ℕ × ℕ)) (i : ℕ) (d : ℕ × ℕ) → AreRanges from top ranges → i < length ranges → (get_or ranges i d).0 ≤ (get_or ranges i d).1
+pub each_goes_up : (from top : ℕ) (ranges : List (ℕ × ℕ)) (i : ℕ) (d : ℕ × ℕ) → AreRanges from top ranges
+    → i < length ranges → (get_or ranges i d).0 ≤ (get_or ranges i d).1
 each_goes_up from top [] i d are lt = absurd (omega arith)
 each_goes_up from top (range ∷ ranges) zero d (a, b, e, rest) lt = b
 each_goes_up from top (range ∷ ranges) (suc i) d (a, b, e, rest) lt = each_goes_up (range.1 + 2) top ranges i d rest (omega arith)

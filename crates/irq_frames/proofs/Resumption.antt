@@ -40,13 +40,15 @@ pub word_holds : (words : WordLaws) (places : ℕ → Word) (f : Suspended) (fir
     → HasMasks exit.entry → Tells places f first exit.entry → HoldsOfWord (Some f) exit v → HoldsOfWord first (resumed_word places exit) v
 word_holds words places f first exit v normal masks tells holds = by_holds words places f first exit exit.entry v refl normal masks tells holds
 
-masked_normal : (words : WordLaws) (entry : Entry) (held : Word) → HasMasks (Some entry) → IsNormal 65536 held.set → IsNormal 65536 (masked_by entry held).set
+masked_normal : (words : WordLaws) (entry : Entry) (held : Word) → HasMasks (Some entry) → IsNormal 65536 held.set
+    → IsNormal 65536 (masked_by entry held).set
 masked_normal words entry held masks normal = elim (cases_Bool (is_unmasked 65535 entry)) [
   | inl whole ↦ rw whole normal
   | inr some ↦ rw some (words.or_normal entry.or (word_and entry.and held) masks.1 (words.and_normal entry.and held masks.0 normal))
 ]
 
-by_normal : (words : WordLaws) (places : ℕ → Word) (exit : Word) (entry : Option Entry) → AreNormal places → HasMasks entry → IsNormal 65536 exit.set
+by_normal : (words : WordLaws) (places : ℕ → Word) (exit : Word) (entry : Option Entry) → AreNormal places
+    → HasMasks entry → IsNormal 65536 exit.set
     → IsNormal 65536 (resumed_by places exit entry).set
 by_normal words places exit None normal masks own = own
 by_normal words places exit (Some entry) normal masks own = masked_normal words entry (places entry.place) masks (normal entry.place)
@@ -56,7 +58,8 @@ pub word_normal : (words : WordLaws) (places : ℕ → Word) (exit : Word) → A
 word_normal words places exit = by_normal words places exit exit.entry
 
 -- its relation
-by_none : (places : ℕ → Word) (exit : Word) (entry : Option Entry) → exit.entry ≡ None → entry ≡ None → (resumed_by places exit entry).entry ≡ None
+by_none : (places : ℕ → Word) (exit : Word) (entry : Option Entry) → exit.entry ≡ None → entry ≡ None
+    → (resumed_by places exit entry).entry ≡ None
 by_none places exit None is same = is
 by_none places exit (Some entry) is same = absurd (cc)
 
@@ -75,7 +78,8 @@ word_entry places exit entry is = subst (λ (one : Option Entry). IsBehind entry
 
 -- CELLS THAT ARE WRITTEN
 
-all_each : (P : Cell → Type 0) (cells : List Cell) (held : CellMap) → Each P cells → Each P held.cells → Each P (with_written cells held).cells
+all_each : (P : Cell → Type 0) (cells : List Cell) (held : CellMap) → Each P cells → Each P held.cells
+    → Each P (with_written cells held).cells
 all_each P [] held h k = k
 all_each P (cell ∷ cells) held h k = all_each P cells (write_one held cell.place cell.size cell.word) h.1 (each_written P held cell h.0 k)
 
@@ -98,7 +102,8 @@ rewritten_byte ram at address bytes = elim (cases_Bool (address == at)) [
   | inr other ↦ rw other refl
 ]
 
-rewritten_word : (ram : ℕ → ℕ) (at address : ℕ) → ((b : ℕ) → ram b < 256) → written ram at 2 (ram at + 256 * ram ((at + 1) % 65536)) address ≡ ram address
+rewritten_word : (ram : ℕ → ℕ) (at address : ℕ) → ((b : ℕ) → ram b < 256)
+    → written ram at 2 (ram at + 256 * ram ((at + 1) % 65536)) address ≡ ram address
 unfolding written
 rewritten_word ram at address bytes = elim (cases_Bool (address == at)) [
   | inl same ↦ rw same (low_of (ram at) (ram ((at + 1) % 65536)) (bytes at) ∙ ap ram (sym (eqb-true address at same)))
@@ -113,7 +118,8 @@ rewritten : (ram : ℕ → ℕ) (at size address : ℕ) → ((b : ℕ) → ram b
 rewritten ram at size address bytes (inl one) = subst (λ (s : ℕ). written ram at s (number_at ram at s) address ≡ ram address) (sym one) (rewritten_byte ram at address bytes)
 rewritten ram at size address bytes (inr two) = subst (λ (s : ℕ). written ram at s (number_at ram at s) address ≡ ram address) (sym two) (rewritten_word ram at address bytes)
 
-one_formed : (laws : CellLaws) (held : CellMap) (cell : Cell) → IsCellMap held → IsWritten cell → IsCellMap (write_one held cell.place cell.size cell.word)
+one_formed : (laws : CellLaws) (held : CellMap) (cell : Cell) → IsCellMap held → IsWritten cell
+    → IsCellMap (write_one held cell.place cell.size cell.word)
 unfolding write_one
 one_formed laws held cell form is = record {
   high = form.high;
@@ -132,7 +138,8 @@ one_stands laws first ram held cell form is stands under =
     under.0 (λ b low high. rewritten ram at size b under.0 is.size)
     (laws.write first ram held.lo at size v held cell.word form.high form.are is.high is.size is.fits.normal is.fits.byte under stands)
 
-all_formed : (laws : CellLaws) (cells : List Cell) (held : CellMap) → IsCellMap held → Each IsWritten cells → IsCellMap (with_written cells held)
+all_formed : (laws : CellLaws) (cells : List Cell) (held : CellMap) → IsCellMap held → Each IsWritten cells
+    → IsCellMap (with_written cells held)
 all_formed laws [] held form each = form
 all_formed laws (cell ∷ cells) held form each = all_formed laws cells (write_one held cell.place cell.size cell.word) (one_formed laws held cell form each.0) each.1
 
@@ -159,7 +166,8 @@ untouched_form touched at form = record {
 within_turn : (place : ℕ) → place + 2 ≤ 65536 → (place + 1) % 65536 ≡ place + 2 - 1
 within_turn place h = omega arith
 
-same_place : (touched : List (ℕ × ℕ)) (now then_ : ℕ → ℕ) (place size : ℕ) → (size ≡ 1) ⊎ (size ≡ 2) → place + size ≤ 65536 → AgreeOutside touched now then_
+same_place : (touched : List (ℕ × ℕ)) (now then_ : ℕ → ℕ) (place size : ℕ) → (size ≡ 1) ⊎ (size ≡ 2)
+    → place + size ≤ 65536 → AgreeOutside touched now then_
     → is_untouched touched place size ≡ true → number_at now place size ≡ number_at then_ place size
 same_place touched now then_ place size sized whole agree none =
     let parts = and_parts (not (has_address touched place)) (not (has_address touched (place + size - 1))) none in
@@ -175,7 +183,8 @@ same_place touched now then_ place size sized whole agree none =
           (ap (λ (b : ℕ). b + 256 * now ((place + 1) % 65536)) first ∙ ap (λ (b : ℕ). then_ place + 256 * b) high)
     ]
 
-untouched_stand : (first : Option Suspended) (touched : List (ℕ × ℕ)) (now then_ : ℕ → ℕ) (at : CellMap) → IsCellMap at → ((b : ℕ) → now b < 256)
+untouched_stand : (first : Option Suspended) (touched : List (ℕ × ℕ)) (now then_ : ℕ → ℕ) (at : CellMap) → IsCellMap at
+    → ((b : ℕ) → now b < 256)
     → AgreeOutside touched now then_
     → StandsUnder first at.cells then_ → StandsUnder first (untouched_cells touched at.cells) now
 untouched_stand first touched now then_ at form bytes agree under =
@@ -197,7 +206,8 @@ exit_each words P touched cells each =
     let Q = λ (cell : Cell). P (going_on words cell) in
     each_map (λ cell. Q cell × (test cell ≡ true)) P (going_on words) (filter test cells) (λ cell h. h.0) (each_filter Q test cells (each_from Q cells each))
 
-exit_written : (words : Cell → Word) (exit : CellMap) → IsCellMap exit → EachFits words exit.cells → (cell : Cell) → Contains exit.cells cell
+exit_written : (words : Cell → Word) (exit : CellMap) → IsCellMap exit → EachFits words exit.cells → (cell : Cell)
+    → Contains exit.cells cell
     → IsWritten (going_on words cell)
 exit_written words exit form fit cell held =
     let is = cell_of exit.lo exit.hi exit.lo exit.cells cell form.are held in
@@ -216,7 +226,8 @@ cells_stand cells words first then_ now at exit touched form exit_form fit hold 
     (exit_each words (λ cell. IsWritten cell × StandsAt first now cell) touched exit.cells (λ cell held. (exit_written words exit exit_form fit cell held, hold cell held)))
     (untouched_stand first touched now then_ at form bytes agree under)
 
-pub cells_formed : (cells : CellLaws) (words : Cell → Word) (at exit : CellMap) (touched : List (ℕ × ℕ)) → IsCellMap at → IsCellMap exit → EachFits words exit.cells
+pub cells_formed : (cells : CellLaws) (words : Cell → Word) (at exit : CellMap) (touched : List (ℕ × ℕ)) → IsCellMap at
+    → IsCellMap exit → EachFits words exit.cells
     → IsCellMap (cells_behind words at exit touched)
 unfolding cells_behind
 cells_formed cells words at exit touched form exit_form fit =
@@ -228,7 +239,8 @@ pub ends_stay : (words : Cell → Word) (at exit : CellMap) (touched : List (ℕ
 unfolding cells_behind
 ends_stay words at exit touched = same_ends (map (going_on words) (touched_cells touched exit.cells)) (record at { cells = untouched_cells touched at.cells })
 
-pub cells_from : (words : Cell → Word) (at exit : CellMap) (touched : List (ℕ × ℕ)) (cell : Cell) → Contains (cells_behind words at exit touched).cells cell
+pub cells_from : (words : Cell → Word) (at exit : CellMap) (touched : List (ℕ × ℕ)) (cell : Cell)
+    → Contains (cells_behind words at exit touched).cells cell
     → IsFromEither words at.cells exit.cells cell
 unfolding cells_behind
 cells_from words at exit touched =
@@ -253,8 +265,10 @@ sized_fit words places exit can cell held =
       }
     ]
 
-pub sized_hold : (words : WordLaws) (places : ℕ → Word) (suspended : Suspended) (first : Option Suspended) (now : ℕ → ℕ) (exit : CellMap) → CanResume places exit
-    → EachTells places suspended first exit.cells → StandsUnder (Some suspended) exit.cells now → EachHolds first (resumed_sized places) now exit.cells
+pub sized_hold : (words : WordLaws) (places : ℕ → Word) (suspended : Suspended) (first : Option Suspended) (now : ℕ → ℕ) (exit : CellMap)
+    → CanResume places exit
+    → EachTells places suspended first exit.cells → StandsUnder (Some suspended) exit.cells now
+    → EachHolds first (resumed_sized places) now exit.cells
 sized_hold words places f first now exit can tells left cell held =
     let v = number_at now cell.place cell.size in
     cond_both (cell.size == 1) (record { set = cell.word.set; entry = None }) (resumed_word places cell.word) (λ (word : Word). HoldsOfWord first word v)

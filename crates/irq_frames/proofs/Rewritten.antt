@@ -32,7 +32,8 @@ each_append P [] more h k = k
 each_append P (cell ∷ cells) more h k = (h.0, each_append P cells more h.1 k)
 
 -- an access meets a cell at its own place, and none in front of it or behind it
-meets_none : (at size : ℕ) (cell : Cell) → at + size ≤ 65536 → 1 ≤ size → (cell.place + cell.size ≤ at) ⊎ (at + size ≤ cell.place) → meets at size cell ≡ false
+meets_none : (at size : ℕ) (cell : Cell) → at + size ≤ 65536 → 1 ≤ size
+    → (cell.place + cell.size ≤ at) ⊎ (at + size ≤ cell.place) → meets at size cell ≡ false
 meets_none at size cell top some apart =
     elim (cases_Bool (size == 2)) [
       | inl two ↦
@@ -42,7 +43,8 @@ meets_none at size cell top some apart =
       | inr other ↦ elim apart [ inl ends ↦ grind (arith, nat_tests) | inr begins ↦ grind (arith, nat_tests) ]
     ]
 
-no_later : (at size : ℕ) (cells : List Cell) → at + size ≤ 65536 → 1 ≤ size → Each (BeginsAt (at + size)) cells → filter (λ cell. not (meets at size cell)) cells ≡ cells
+no_later : (at size : ℕ) (cells : List Cell) → at + size ≤ 65536 → 1 ≤ size → Each (BeginsAt (at + size)) cells
+    → filter (λ cell. not (meets at size cell)) cells ≡ cells
 no_later at size [] top some begins = refl
 no_later at size (cell ∷ cells) top some begins = rw (meets_none at size cell top some (inr begins.0)) (ap (λ rest. cell ∷ rest) (no_later at size cells top some begins.1))
 
@@ -56,11 +58,13 @@ without_one cell [] back top some ends begins = rw (meets_own cell some) (no_lat
 without_one cell (first ∷ front) back top some ends begins =
     rw (meets_none cell.place cell.size first top some (inl ends.0)) (ap (λ rest. first ∷ rest) (without_one cell front back top some ends.1 begins))
 
-insert_first : (cell : Cell) (back : List Cell) → 1 ≤ cell.size → Each (BeginsAt (cell.place + cell.size)) back → insert cell back ≡ cell ∷ back
+insert_first : (cell : Cell) (back : List Cell) → 1 ≤ cell.size → Each (BeginsAt (cell.place + cell.size)) back
+    → insert cell back ≡ cell ∷ back
 insert_first cell [] some begins = refl
 insert_first cell (next_one ∷ back) some begins = rw (lt-ltb cell.place next_one.place (omega (arith, some, begins.0))) refl
 
-insert_between : (cell : Cell) (front back : List Cell) → 1 ≤ cell.size → Each (EndsBy cell.place) front → Each (BeginsAt (cell.place + cell.size)) back
+insert_between : (cell : Cell) (front back : List Cell) → 1 ≤ cell.size → Each (EndsBy cell.place) front
+    → Each (BeginsAt (cell.place + cell.size)) back
     → insert cell (front ++ back) ≡ front ++ cell ∷ back
 insert_between cell [] back some ends begins = insert_first cell back some begins
 insert_between cell (first ∷ front) back some ends begins =
@@ -75,7 +79,8 @@ record IsReplaced (front back : List Cell) (made : Option Cell) (before after : 
   hi_is : after.hi ≡ before.hi
   cells_are : after.cells ≡ (front ++ with_some made []) ++ back
 
-overwritten : (lo hi : ℕ) (front back : List Cell) (cell : Cell) (word : Word) (before : CellMap) → hi < 65536 → before.lo ≡ lo → before.hi ≡ hi → IsCell lo hi cell
+overwritten : (lo hi : ℕ) (front back : List Cell) (cell : Cell) (word : Word) (before : CellMap) → hi < 65536
+    → before.lo ≡ lo → before.hi ≡ hi → IsCell lo hi cell
     → before.cells ≡ front ++ cell ∷ back → Each (EndsBy cell.place) front → Each (BeginsAt (cell.place + cell.size)) back
     → IsReplaced front back (telling (with_word cell word)) before (write_one before cell.place cell.size word)
 unfolding write_one
@@ -99,7 +104,8 @@ overwritten lo hi front back cell word before top lo_is hi_is is at ends begins 
       cells_are = ap (with_cell before.lo before.hi made) left ∙ told;
     }
 
-replaced : (lo hi : ℕ) (front back : List Cell) (cell : Cell) (made : Option Cell) (before after : CellMap) → hi < 65536 → before.lo ≡ lo → before.hi ≡ hi → IsCell lo hi cell
+replaced : (lo hi : ℕ) (front back : List Cell) (cell : Cell) (made : Option Cell) (before after : CellMap) → hi < 65536
+    → before.lo ≡ lo → before.hi ≡ hi → IsCell lo hi cell
     → before.cells ≡ front ++ cell ∷ back → Each (EndsBy cell.place) front → Each (BeginsAt (cell.place + cell.size)) back
     → IsRewritten made cell before after → IsReplaced front back made before after
 replaced lo hi front back cell made before after top lo_is hi_is is at ends begins (inl (same, stays)) =
@@ -114,7 +120,8 @@ replaced lo hi front back cell made before after top lo_is hi_is is at ends begi
     (overwritten lo hi front back cell word before top lo_is hi_is is at ends begins))
 
 -- what a cell becomes ends where the cell does
-ends_as : (cell : Cell) (made : Option Cell) (before after : CellMap) → IsRewritten made cell before after → Each (EndsBy (cell.place + cell.size)) (with_some made [])
+ends_as : (cell : Cell) (made : Option Cell) (before after : CellMap) → IsRewritten made cell before after
+    → Each (EndsBy (cell.place + cell.size)) (with_some made [])
 ends_as cell made before after (inl (same, stays)) = rw same (omega arith, tt)
 ends_as cell made before after (inr (word, same, written)) = rw same (elim (cases_Bool (is_nothing cell.size word)) [
   | inl nothing ↦ rw nothing tt
@@ -149,8 +156,10 @@ walk_begins f held map is =
     let all = behind_all held.cells in
     subst (IsWalked f 0 held) (sym is) (record { before = []; split = all; lo_is = refl; hi_is = refl; made = sym all; ends = tt })
 
-pub walk_goes_on : (f : Cell → Option Cell) (from : ℕ) (cell : Cell) (held map after : CellMap) → held.hi < 65536 → AreCells held.lo held.hi held.lo held.cells
-    → next held.cells from ≡ Some cell → IsWalked f from held map → IsRewritten (f cell) cell map after → IsWalked f (cell.place + cell.size) held after
+pub walk_goes_on : (f : Cell → Option Cell) (from : ℕ) (cell : Cell) (held map after : CellMap) → held.hi < 65536
+    → AreCells held.lo held.hi held.lo held.cells
+    → next held.cells from ≡ Some cell → IsWalked f from held map → IsRewritten (f cell) cell map after
+    → IsWalked f (cell.place + cell.size) held after
 walk_goes_on f from cell held map after top are found walked is =
     let one = next_is held.lo held.hi held.lo from held.cells cell are found in
     let rest_is = behind_next held.lo held.hi held.lo from held.cells cell are found in

@@ -17,10 +17,12 @@ pub record RangeLaws : Type 0 where
       → AreRanges from hi (with_range low high ranges)
   pub add : (from hi at low high : ℕ) (ranges : List (ℕ × ℕ)) → low ≤ high → AreRanges from hi ranges
       → has_address (with_range low high ranges) at ≡ (has_address ranges at || lies_in (at, at) (low, high))
-  pub unite_form : (lo hi : ℕ) (ranges others : List (ℕ × ℕ)) → AreRanges lo hi ranges → AreRanges lo hi others → AreRanges lo hi (united ranges others)
+  pub unite_form : (lo hi : ℕ) (ranges others : List (ℕ × ℕ)) → AreRanges lo hi ranges → AreRanges lo hi others
+      → AreRanges lo hi (united ranges others)
   pub unite_first : (ranges others : List (ℕ × ℕ)) → ranges_within ranges (united ranges others) ≡ true
   pub unite_second : (ranges others : List (ℕ × ℕ)) → ranges_within others (united ranges others) ≡ true
-  pub has : (at : ℕ) (ranges others : List (ℕ × ℕ)) → ranges_within ranges others ≡ true → has_address ranges at ≡ true → has_address others at ≡ true
+  pub has : (at : ℕ) (ranges others : List (ℕ × ℕ)) → ranges_within ranges others ≡ true → has_address ranges at ≡ true
+      → has_address others at ≡ true
   pub itself : (ranges : List (ℕ × ℕ)) → ranges_within ranges ranges ≡ true
   pub along : (a b c : List (ℕ × ℕ)) → ranges_within a b ≡ true → ranges_within b c ≡ true → ranges_within a c ≡ true
   pub whole : (lo hi : ℕ) (ranges : List (ℕ × ℕ)) → AreRanges lo hi ranges → ranges_within ranges ((lo, hi) ∷ []) ≡ true
@@ -30,9 +32,11 @@ pub record FrameLaws : Type 0 where
   pub plain_stands : (first other : Option Suspended) (ram : ℕ → ℕ) (cells : List Cell) → StandsUnder first cells ram
       → StandsUnder other (kept unrelated cells) ram
   pub plain_form : (lo hi from : ℕ) (cells : List Cell) → AreCells lo hi from cells → AreCells lo hi from (kept unrelated cells)
-  pub plain_each : (cells : List Cell) (cell : Cell) → Contains (kept unrelated cells) cell → (held : Cell) × Contains cells held × (plain_cell held ≡ cell)
+  pub plain_each : (cells : List Cell) (cell : Cell) → Contains (kept unrelated cells) cell
+      → (held : Cell) × Contains cells held × (plain_cell held ≡ cell)
   -- words that go on behind it
-  pub word : (places : ℕ → Word) (suspended : Suspended) (first : Option Suspended) (exit : Word) (v : ℕ) → AreNormal places → HasMasks exit.entry
+  pub word : (places : ℕ → Word) (suspended : Suspended) (first : Option Suspended) (exit : Word) (v : ℕ)
+      → AreNormal places → HasMasks exit.entry
       → Tells places suspended first exit.entry → HoldsOfWord (Some suspended) exit v → HoldsOfWord first (resumed_word places exit) v
   pub word_normal : (places : ℕ → Word) (exit : Word) → AreNormal places → HasMasks exit.entry → IsNormal 65536 exit.set
       → IsNormal 65536 (resumed_word places exit).set
@@ -44,13 +48,17 @@ pub record FrameLaws : Type 0 where
   pub untouched : (words : Cell → Word) (first : Option Suspended) (before now : ℕ → ℕ) (at exit : CellMap) (touched : List (ℕ × ℕ))
       → IsCellMap at → IsCellMap exit → EachFits words exit.cells → EachHolds first words now exit.cells → AgreeOutside touched now before
       → ((b : ℕ) → now b < 256) → StandsUnder first at.cells before → StandsUnder first (cells_behind words at exit touched).cells now
-  pub untouched_form : (words : Cell → Word) (at exit : CellMap) (touched : List (ℕ × ℕ)) → IsCellMap at → IsCellMap exit → EachFits words exit.cells
+  pub untouched_form : (words : Cell → Word) (at exit : CellMap) (touched : List (ℕ × ℕ)) → IsCellMap at
+      → IsCellMap exit → EachFits words exit.cells
       → IsCellMap (cells_behind words at exit touched)
   pub untouched_lo : (words : Cell → Word) (at exit : CellMap) (touched : List (ℕ × ℕ)) → (cells_behind words at exit touched).lo ≡ at.lo
   pub untouched_hi : (words : Cell → Word) (at exit : CellMap) (touched : List (ℕ × ℕ)) → (cells_behind words at exit touched).hi ≡ at.hi
-  pub origin : (words : Cell → Word) (at exit : CellMap) (touched : List (ℕ × ℕ)) (cell : Cell) → Contains (cells_behind words at exit touched).cells cell
+  pub origin : (words : Cell → Word) (at exit : CellMap) (touched : List (ℕ × ℕ)) (cell : Cell)
+      → Contains (cells_behind words at exit touched).cells cell
       → IsFromEither words at.cells exit.cells cell
   -- words by what the places held fit and hold
   pub sized_fit : (places : ℕ → Word) (exit : CellMap) → CanResume places exit → EachFits (resumed_sized places) exit.cells
-  pub sized_hold : (places : ℕ → Word) (suspended : Suspended) (first : Option Suspended) (now : ℕ → ℕ) (exit : CellMap) → CanResume places exit
-      → EachTells places suspended first exit.cells → StandsUnder (Some suspended) exit.cells now → EachHolds first (resumed_sized places) now exit.cells
+  pub sized_hold : (places : ℕ → Word) (suspended : Suspended) (first : Option Suspended) (now : ℕ → ℕ) (exit : CellMap)
+      → CanResume places exit
+      → EachTells places suspended first exit.cells → StandsUnder (Some suspended) exit.cells now
+      → EachHolds first (resumed_sized places) now exit.cells

@@ -40,12 +40,14 @@ low_wider (bit ∷ bits) v y h =
 
 -- one bit
 either_bit : (n : ℕ) → (n % 2 ≡ 0) ⊎ (n % 2 ≡ 1)
-either_bit n = elim (cases_Bool (n % 2 == 1)) [ inl one ↦ inr (eqb-true (n % 2) 1 one) | inr none ↦ inl (not_one (n % 2) (omega arith) none) ]
+either_bit n =
+    elim (cases_Bool (n % 2 == 1)) [ inl one ↦ inr (eqb-true (n % 2) 1 one) | inr none ↦ inl (not_one (n % 2) (omega arith) none) ]
 
 masked_number : (and or w : ℕ) → bit_or (bit_and w and) or % 2 ≡ bit_or (bit_and (w % 2) (and % 2)) (or % 2)
 masked_number and or w = or_mod (bit_and w and) or 1 ∙ ap (λ n. bit_or n (or % 2)) (and_mod w and 1)
 
-bit_masked : (and or w : ℕ) (bit : Tri) → IsBit bit (w % 2) → (and % 2 ≡ 0) ⊎ (and % 2 ≡ 1) → (or % 2 ≡ 0) ⊎ (or % 2 ≡ 1) → (w % 2 ≡ 0) ⊎ (w % 2 ≡ 1)
+bit_masked : (and or w : ℕ) (bit : Tri) → IsBit bit (w % 2) → (and % 2 ≡ 0) ⊎ (and % 2 ≡ 1)
+    → (or % 2 ≡ 0) ⊎ (or % 2 ≡ 1) → (w % 2 ≡ 0) ⊎ (w % 2 ≡ 1)
     → IsBit (masked_bit and or bit) (bit_or (bit_and (w % 2) (and % 2)) (or % 2))
 bit_masked and or w bit is (inl a) (inl o) (inl v) = rw (a, o, v) refl
 bit_masked and or w bit is (inl a) (inl o) (inr v) = rw (a, o, v) refl
@@ -71,14 +73,17 @@ masked_length and or (bit ∷ bits) = ap suc (masked_length (and / 2) (or / 2) b
 
 -- RELATIONS THAT KEEP EACH BIT
 
-pub unmasked_is : (width : ℕ) (entry : Entry) (v : ℕ) → is_unmasked (2 ^ width - 1) entry ≡ true → bit_or (bit_and v entry.and) entry.or ≡ v % 2 ^ width
+pub unmasked_is : (width : ℕ) (entry : Entry) (v : ℕ) → is_unmasked (2 ^ width - 1) entry ≡ true
+    → bit_or (bit_and v entry.and) entry.or ≡ v % 2 ^ width
 unmasked_is width entry v whole =
     let last = 2 ^ width - 1 in
     let parts = and_parts (entry.and == last) (entry.or == 0) whole in
-    ap (bit_or (bit_and v entry.and)) (eqb-true entry.or 0 parts.1) ∙ or_zero_r (bit_and v entry.and) ∙ ap (bit_and v) (eqb-true entry.and last parts.0) ∙ and_mask v width
+    ap (bit_or (bit_and v entry.and)) (eqb-true entry.or 0 parts.1) ∙ or_zero_r (bit_and v entry.and)
+    ∙ ap (bit_and v) (eqb-true entry.and last parts.0) ∙ and_mask v width
 
 -- a value that is what a place held is a number that the place may be read as
-pub itself_read : (width : ℕ) (f : Suspended) (place v : ℕ) (entry : Option Entry) → is_itself (2 ^ width - 1) place entry ≡ true → IsFromEntry (Some f) entry v
+pub itself_read : (width : ℕ) (f : Suspended) (place v : ℕ) (entry : Option Entry)
+    → is_itself (2 ^ width - 1) place entry ≡ true → IsFromEntry (Some f) entry v
     → (word : ℕ) × Reads f place word × (v ≡ word % 2 ^ width)
 itself_read width f place v None is from = absurd (cc)
 itself_read width f place v (Some entry) is (word, reads, made) =

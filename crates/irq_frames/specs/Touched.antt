@@ -42,7 +42,8 @@ within_all laws lo hi false touched form = subst (λ ranges. ranges_within range
 united_none : (a b : List (ℕ × ℕ)) → a ≡ [] → b ≡ [] → united a b ≡ []
 united_none a b e f = subst (λ ranges. united a ranges ≡ []) (sym f) e
 
-pub touched_ordered : KnownLaws → (lo hi : ℕ) (framed : Bool) → IsOrdered (AreTouched lo hi framed) ranges_within united (all_touched framed lo hi)
+pub touched_ordered : KnownLaws → (lo hi : ℕ) (framed : Bool)
+    → IsOrdered (AreTouched lo hi framed) ranges_within united (all_touched framed lo hi)
 touched_ordered laws lo hi framed = record {
   itself = λ a form. laws.ranges.itself a;
   along = laws.ranges.along;
@@ -53,7 +54,8 @@ touched_ordered laws lo hi framed = record {
 }
 
 -- what isn't touched in the second isn't in the first
-pub untouched_more : KnownLaws → (a b : List (ℕ × ℕ)) (at : ℕ) → ranges_within a b ≡ true → has_address b at ≡ false → has_address a at ≡ false
+pub untouched_more : KnownLaws → (a b : List (ℕ × ℕ)) (at : ℕ) → ranges_within a b ≡ true → has_address b at ≡ false
+    → has_address a at ≡ false
 untouched_more laws a b at within none = elim (cases_Bool (has_address a at)) [
   | inl some ↦ let there : has_address b at ≡ true = laws.ranges.has at a b within some in absurd (cc)
   | inr lacks ↦ lacks

@@ -19,7 +19,8 @@ pub record StaysSo (P : Cell → Type 0) : Type 0 where
   pub none : (cell : Cell) (set : Form) → P cell → P (cell_with cell set None)
 
 module _ (P : Cell → Type 0) (stays : StaysSo P) where
-  both_stay : (f : Word → Word → Word) → ((h n : Word) → (f h n).entry ≡ common_entry h.entry n.entry) → (cell : Cell) (new : Option Word) → P cell
+  both_stay : (f : Word → Word → Word) → ((h n : Word) → (f h n).entry ≡ common_entry h.entry n.entry)
+      → (cell : Cell) (new : Option Word) → P cell
       → OfSome P (both_of f cell new)
   both_stay f entries cell None form = tt
   both_stay f entries cell (Some new) form =

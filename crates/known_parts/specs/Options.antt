@@ -28,7 +28,8 @@ fact_top same None = refl
 fact_top same (Some a) = refl
 
 -- what holds of no fact, and of the first one's fact, holds of what both have
-pub common_fact_keeps : {F : Type 0} (same : F → F → Bool) (P : Option F → Type 0) (a b : Option F) → P None → P a → P (common_fact same a b)
+pub common_fact_keeps : {F : Type 0} (same : F → F → Bool) (P : Option F → Type 0) (a b : Option F) → P None → P a
+    → P (common_fact same a b)
 common_fact_keeps same P None b none some = none
 common_fact_keeps same P (Some a) None none some = none
 common_fact_keeps same P (Some a) (Some b) none some = cond_both (same a b) (Some a) None P (λ e. some) (λ e. none)

@@ -41,7 +41,8 @@ module _ (laws : SetLaws) where
     whole = set_whole m;
   }
 
-  set_widened : (m : ℕ) (marks : List ℕ) → AreMarks m marks → IsOrdered (IsNormal m) (is_within m) (λ held new. widen m held new marks) (make m 0 1 m)
+  set_widened : (m : ℕ) (marks : List ℕ) → AreMarks m marks
+      → IsOrdered (IsNormal m) (is_within m) (λ held new. widen m held new marks) (make m 0 1 m)
   set_widened m marks below = record {
     itself = λ a form. set_itself m a;
     along = set_along m;
@@ -71,7 +72,8 @@ module _ (laws : CellLaws) where
     whole = λ cells form. refl;
   }
 
-  cells_widened : (lo hi : ℕ) (marks : List ℕ) → AreMarks 65536 marks → IsOrdered (AreCells lo hi lo) are_within (λ held new. widen_cells held new marks) []
+  cells_widened : (lo hi : ℕ) (marks : List ℕ) → AreMarks 65536 marks
+      → IsOrdered (AreCells lo hi lo) are_within (λ held new. widen_cells held new marks) []
   cells_widened lo hi marks below = record {
     itself = laws.itself lo hi lo;
     along = laws.along;

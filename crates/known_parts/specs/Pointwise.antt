@@ -17,9 +17,11 @@ pub record AreEach {A : Type 0} (n : ℕ) (Form : A → Type 0) (xs : List A) : 
 module _ {A : Type 0} (Form : A → Type 0) (test : A → A → Bool) where
   each_itself : ((x : A) → Form x → test x x ≡ true) → (xs : List A) → All Form xs → each_passes test xs xs ≡ true
   each_itself itself [] f = refl
-  each_itself itself (x ∷ xs) f = and_from (test x x) (each_passes test xs xs) (itself x (All-head Form x xs f)) (each_itself itself xs (All-tail Form x xs f))
+  each_itself itself (x ∷ xs) f =
+      and_from (test x x) (each_passes test xs xs) (itself x (All-head Form x xs f)) (each_itself itself xs (All-tail Form x xs f))
 
-  each_top : (top : A) → ((x : A) → Form x → test x top ≡ true) → (xs : List A) → All Form xs → each_passes test xs (replicate (length xs) top) ≡ true
+  each_top : (top : A) → ((x : A) → Form x → test x top ≡ true) → (xs : List A) → All Form xs
+      → each_passes test xs (replicate (length xs) top) ≡ true
   each_top top greatest [] f = refl
   each_top top greatest (x ∷ xs) f = and_from (test x top) (each_passes test xs (replicate (length xs) top))
       (greatest x (All-head Form x xs f)) (each_top top greatest xs (All-tail Form x xs f))
@@ -50,7 +52,8 @@ record ArePairs {A : Type 0} (Form : A → Type 0) (xs ys : List A) : Type 0 whe
   second : All Form ys
   even : length xs ≡ length ys
 
-rest_pairs : {A : Type 0} (Form : A → Type 0) (x : A) (xs : List A) (y : A) (ys : List A) → ArePairs Form (x ∷ xs) (y ∷ ys) → ArePairs Form xs ys
+rest_pairs : {A : Type 0} (Form : A → Type 0) (x : A) (xs : List A) (y : A) (ys : List A)
+    → ArePairs Form (x ∷ xs) (y ∷ ys) → ArePairs Form xs ys
 rest_pairs Form x xs y ys f = let even : length (x ∷ xs) ≡ length (y ∷ ys) = f.even in
     record { first = All-tail Form x xs f.first; second = All-tail Form y ys f.second; even = omega arith }
 
@@ -84,7 +87,8 @@ module _ {A : Type 0} (Form : A → Type 0) (made : A → A → A) where
 pairs_of : {A : Type 0} (n : ℕ) (Form : A → Type 0) (xs ys : List A) → AreEach n Form xs → AreEach n Form ys → ArePairs Form xs ys
 pairs_of n Form xs ys f g = record { first = f.each; second = g.each; even = f.count ∙ sym g.count }
 
-pub each_ordered : {A : Type 0} {Form : A → Type 0} {test : A → A → Bool} {made : A → A → A} {top : A} (n : ℕ) → IsOrdered Form test made top
+pub each_ordered : {A : Type 0} {Form : A → Type 0} {test : A → A → Bool} {made : A → A → A} {top : A} (n : ℕ)
+    → IsOrdered Form test made top
     → IsOrdered (AreEach n Form) (each_passes test) (each_with made) (replicate n top)
 each_ordered {Form = Form} {test = test} {made = made} {top = top} n ordered =
     let pairs = pairs_of n Form in
@@ -111,9 +115,11 @@ all_made f n i xs held new made far long held_long so_far =
     let joined = rw (all, none) at so_far in
     sym (append-nil xs) ∙ joined
 
-pub fails_at : {A : Type 0} (test : A → A → Bool) (xs ys : List A) (i : ℕ) (d : A) → i < length xs → i < length ys → test (get_or xs i d) (get_or ys i d) ≡ false
+pub fails_at : {A : Type 0} (test : A → A → Bool) (xs ys : List A) (i : ℕ) (d : A) → i < length xs → i < length ys
+    → test (get_or xs i d) (get_or ys i d) ≡ false
     → each_passes test xs ys ≡ false
 fails_at test [] ys i d lt le h = absurd (omega arith)
 fails_at test (x ∷ xs) [] i d lt le h = absurd (omega arith)
 fails_at test (x ∷ xs) (y ∷ ys) zero d lt le h = and_left (test x y) (each_passes test xs ys) h
-fails_at test (x ∷ xs) (y ∷ ys) (suc i) d lt le h = and_right (test x y) (each_passes test xs ys) (fails_at test xs ys i d (omega arith) (omega arith) h)
+fails_at test (x ∷ xs) (y ∷ ys) (suc i) d lt le h =
+    and_right (test x y) (each_passes test xs ys) (fails_at test xs ys i d (omega arith) (omega arith) h)

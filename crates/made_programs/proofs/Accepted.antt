@@ -33,17 +33,20 @@ rows_within at (b ∷ bytes) =
     (λ byte h. let low = h.0 in let high = h.1 in (omega arith, omega arith)) (enumerate_from (at + 1) bytes) (rows_within (at + 1) bytes))
 
 -- a test that fails at each address of a row
-none_in_row : (test : ℕ × ℕ → Bool) (at : ℕ) (bytes : List ℕ) → ((byte : ℕ × ℕ) → at ≤ byte.0 → byte.0 < at + length bytes → test byte ≡ false)
+none_in_row : (test : ℕ × ℕ → Bool) (at : ℕ) (bytes : List ℕ)
+    → ((byte : ℕ × ℕ) → at ≤ byte.0 → byte.0 < at + length bytes → test byte ≡ false)
     → list_any test (enumerate_from at bytes) ≡ false
 none_in_row test at bytes fails =
     list_any_none test (enumerate_from at bytes)
     (All-weaker (λ (byte : ℕ × ℕ). (at ≤ byte.0) × (byte.0 < at + length bytes)) (λ byte. test byte ≡ false) (λ byte h. fails byte h.0 h.1)
     (enumerate_from at bytes) (rows_within at bytes))
 
-in_range : (at : ℕ) (bytes : List ℕ) → at + length bytes ≤ 65536 → list_any (λ (byte : ℕ × ℕ). nat_lt 65535 byte.0) (enumerate_from at bytes) ≡ false
+in_range : (at : ℕ) (bytes : List ℕ) → at + length bytes ≤ 65536
+    → list_any (λ (byte : ℕ × ℕ). nat_lt 65535 byte.0) (enumerate_from at bytes) ≡ false
 in_range at bytes fits = none_in_row _ at bytes (λ byte low high. le-ltb 65535 byte.0 (omega arith))
 
-apart : (placed : List (ℕ × ℕ)) (top : ℕ) (byte : ℕ × ℕ) → All (λ (other : ℕ × ℕ). other.0 < top) placed → top ≤ byte.0 → clashes placed byte ≡ false
+apart : (placed : List (ℕ × ℕ)) (top : ℕ) (byte : ℕ × ℕ) → All (λ (other : ℕ × ℕ). other.0 < top) placed → top ≤ byte.0
+    → clashes placed byte ≡ false
 apart placed top byte below above =
     let test : ℕ × ℕ → Bool = λ other. (other.0 == byte.0) && not (other.1 == byte.1) in
     list_any_none test placed
@@ -54,7 +57,8 @@ all_apart : (placed : List (ℕ × ℕ)) (top at : ℕ) (bytes : List ℕ) → A
     → list_any (clashes placed) (enumerate_from at bytes) ≡ false
 all_apart placed top at bytes below above = none_in_row (clashes placed) at bytes (λ byte low high. apart placed top byte below (omega arith))
 
-all_free : (rules : Rules) (at : ℕ) (bytes : List ℕ) → IsFree rules at → list_any (λ (byte : ℕ × ℕ). is_misplaced rules byte.0) (enumerate_from at bytes) ≡ false
+all_free : (rules : Rules) (at : ℕ) (bytes : List ℕ) → IsFree rules at
+    → list_any (λ (byte : ℕ × ℕ). is_misplaced rules byte.0) (enumerate_from at bytes) ≡ false
 all_free rules at bytes free = none_in_row _ at bytes (λ byte low high. free byte.0 low)
 
 -- none of the faults of a line

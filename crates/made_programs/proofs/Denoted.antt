@@ -86,7 +86,8 @@ image_from known chosen lines before line ends = elim (known chosen Blank lines)
 ]
 
 -- two stretches, the second behind the first
-two_laid : (chosen : Rules) (at : ℕ) (bytes : List ℕ) (next : ℕ) (more : List ℕ) → IsStretch at bytes → IsStretch next more → at + length bytes ≤ next
+two_laid : (chosen : Rules) (at : ℕ) (bytes : List ℕ) (next : ℕ) (more : List ℕ) → IsStretch at bytes
+    → IsStretch next more → at + length bytes ≤ next
     → IsFree chosen at → IsLaid chosen (rows_of at bytes) next × IsLaid chosen (rows_of at bytes ++ rows_of next more) (next + length more)
 two_laid chosen at bytes next more first second behind free =
     let one = laid_below chosen (rows_of at bytes) (at + length bytes) next (laid_stretch chosen [] at bytes (laid_none chosen at) first free) behind in

@@ -59,7 +59,8 @@ line_ends begun (c ∷ digits) text all =
     rw (no_feed c parts.0, more) (ap (λ line. without_return line ∷ lines_behind [] text) (append_assoc begun (c ∷ []) digits))
 
 -- the last of digits behind a byte that is no carriage return is none either
-last_other : (c : ℕ) (digits : List ℕ) → (c ≡ 13 → ⊥) → list_all is_hex_digit digits ≡ true → slice_index (c ∷ digits) (length digits) ≡ 13 → ⊥
+last_other : (c : ℕ) (digits : List ℕ) → (c ≡ 13 → ⊥) → list_all is_hex_digit digits ≡ true
+    → slice_index (c ∷ digits) (length digits) ≡ 13 → ⊥
 last_other c [] other all = other
 last_other c (d ∷ digits) other all =
     let parts = and_parts (is_hex_digit d) (list_all is_hex_digit digits) all in

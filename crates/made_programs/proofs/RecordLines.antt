@@ -39,7 +39,8 @@ whole_bytes at bytes row =
 pub record_back : (at : ℕ) (bytes : List ℕ) → IsRow at bytes → record_of (line_at at bytes) ≡ whole_record at bytes
 record_back at bytes row = bytes_back (whole_record at bytes) (whole_bytes at bytes row)
 
-pub line_found : (at : ℕ) (bytes text : List ℕ) → IsRow at bytes → lines_of (record_line at bytes ++ text) ≡ line_at at bytes ∷ lines_of text
+pub line_found : (at : ℕ) (bytes text : List ℕ) → IsRow at bytes
+    → lines_of (record_line at bytes ++ text) ≡ line_at at bytes ∷ lines_of text
 line_found at bytes text row = one_line (whole_record at bytes) text (whole_bytes at bytes row)
 
 pub length-whole : (at : ℕ) (bytes : List ℕ) → length (whole_record at bytes) ≡ length bytes + 5

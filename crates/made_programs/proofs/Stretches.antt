@@ -55,14 +55,16 @@ found_upto at bytes text (suc k) stretch h =
     ∙ ap (λ lines. rows_upto at bytes k ++ lines) (line_found (at + 16 * k) (row_of bytes k) text row)
     ∙ sym (append_assoc (rows_upto at bytes k) (line ∷ []) (lines_of text))
 
-pub found : (at : ℕ) (bytes text : List ℕ) → IsStretch at bytes → lines_of (stretch_lines at bytes ++ text) ≡ rows_of at bytes ++ lines_of text
+pub found : (at : ℕ) (bytes text : List ℕ) → IsStretch at bytes
+    → lines_of (stretch_lines at bytes ++ text) ≡ rows_of at bytes ++ lines_of text
 found at bytes text stretch = found_upto at bytes text ((length bytes + 15) / 16) stretch (omega arith)
 
 -- a row more
 row_end : (at k n size : ℕ) → 16 * k < n → size ≡ min 16 (n - 16 * k) → at + 16 * k + size ≡ at + min (16 * suc k) n
 row_end at k n size more is = omega arith
 
-laid_upto : (rules : Rules) (lines : List (List ℕ)) (at : ℕ) (bytes : List ℕ) (k : ℕ) → IsLaid rules lines at → IsStretch at bytes → IsFree rules at
+laid_upto : (rules : Rules) (lines : List (List ℕ)) (at : ℕ) (bytes : List ℕ) (k : ℕ) → IsLaid rules lines at
+    → IsStretch at bytes → IsFree rules at
     → k ≤ (length bytes + 15) / 16 → IsLaid rules (lines ++ rows_upto at bytes k) (at + min (16 * k) (length bytes))
 laid_upto rules lines at bytes zero laid stretch free h = rw append-nil (laid_below rules lines at (at + min 0 (length bytes)) laid (omega arith))
 laid_upto rules lines at bytes (suc k) laid stretch free h =
@@ -78,7 +80,8 @@ laid_upto rules lines at bytes (suc k) laid stretch free h =
     (subst (IsLaid rules ((lines ++ rows_upto at bytes k) ++ line ∷ [])) top next)
 
 -- a stretch behind lines whose bytes stand below it
-pub laid_stretch : (rules : Rules) (lines : List (List ℕ)) (at : ℕ) (bytes : List ℕ) → IsLaid rules lines at → IsStretch at bytes → IsFree rules at
+pub laid_stretch : (rules : Rules) (lines : List (List ℕ)) (at : ℕ) (bytes : List ℕ) → IsLaid rules lines at
+    → IsStretch at bytes → IsFree rules at
     → IsLaid rules (lines ++ rows_of at bytes) (at + length bytes)
 laid_stretch rules lines at bytes laid stretch free =
     let all : min (16 * ((length bytes + 15) / 16)) (length bytes) ≡ length bytes = omega arith in

@@ -26,15 +26,18 @@ changed_writes Da s = record { state = refl; psw = λ e. absurd (cc) }
 changed_writes Clr s = record { state = refl; psw = λ e. refl }
 changed_writes Cpl s = record { state = refl; psw = λ e. refl }
 
-made_is : (laws : InstructionLaws) (framed : Bool) (a : Known) (done : AccumulatorOperation) → IsKnown framed a → IsMade framed (changed_made done a.a a.psw)
+made_is : (laws : InstructionLaws) (framed : Bool) (a : Known) (done : AccumulatorOperation) → IsKnown framed a
+    → IsMade framed (changed_made done a.a a.psw)
 made_is laws framed a done form = laws.results.accumulations.alone_form framed done (made_before a) (before_form framed a form)
 
-pub change_form : (laws : InstructionLaws) (framed : Bool) (a : Known) (done : AccumulatorOperation) → IsKnown framed a → IsKnown framed (changed_known done a)
+pub change_form : (laws : InstructionLaws) (framed : Bool) (a : Known) (done : AccumulatorOperation) → IsKnown framed a
+    → IsKnown framed (changed_known done a)
 unfolding changed_known
 change_form laws framed a done form =
     made_form framed (changed_made done a.a a.psw) (changes_carry done) None a (made_is laws framed a done form) tt form
 
-pub change_so : (laws : InstructionLaws) (framed : Bool) (a : Known) (s : ChipState) (first : Option ChipState) (done : AccumulatorOperation) → IsUnder framed a s first
+pub change_so : (laws : InstructionLaws) (framed : Bool) (a : Known) (s : ChipState) (first : Option ChipState) (done : AccumulatorOperation)
+    → IsUnder framed a s first
     → IsUnder framed (changed_known done a) (changed done s) first
 unfolding changed_known
 change_so laws framed a s first done under =

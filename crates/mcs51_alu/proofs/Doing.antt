@@ -31,7 +31,8 @@ use Rattle.mcs51_alu.proofs.Written.{pc_stays}
 -- THE FORMATS
 
 -- of an operand that is read, where each number leads there
-operand_does : (laws : InstructionLaws) (framed : Bool) (a : Known) (s : ChipState) (first : Option ChipState) (pc : ℕ) (m : Memory) (behind : Known) (leads : ℕ → ChipState) → IsUnder framed a s first → IsMemory m
+operand_does : (laws : InstructionLaws) (framed : Bool) (a : Known) (s : ChipState) (first : Option ChipState) (pc : ℕ) (m : Memory) (behind : Known) (leads : ℕ → ChipState)
+    → IsUnder framed a s first → IsMemory m
     → ((x : ℕ) → MayRead s (address_of s m) x → LeadsSo framed first behind s (leads x))
     → Gives (DoesSo framed first (read_items pc a m) pc behind s) (reading s (address_reads s m) (address_of s m) leads)
 operand_does laws framed a s first pc m behind leads under is each =
@@ -54,19 +55,22 @@ unfolding effect_of
 immediate_does laws framed a s first image pc value under small =
     laws.operands.formats.implied framed first pc (immediate value a) s (with_accumulator value s) (record { onward = refl; under = immediate_so laws framed a s first value under small })
 
-pub increment_does : (laws : InstructionLaws) (framed : Bool) (a : Known) (s : ChipState) (first : Option ChipState) (image : List (Option ℕ)) (pc : ℕ) → IsUnder framed a s first
+pub increment_does : (laws : InstructionLaws) (framed : Bool) (a : Known) (s : ChipState) (first : Option ChipState) (image : List (Option ℕ)) (pc : ℕ)
+    → IsUnder framed a s first
     → Gives (DoesSo framed first [] pc (counted true a) s) (effect_of image s (Increment Accumulator))
 unfolding effect_of
 increment_does laws framed a s first image pc under =
     laws.operands.formats.implied framed first pc (counted true a) s (with_accumulator ((s.a + 1) % 256) s) (record { onward = refl; under = count_so laws framed a s first true under })
 
-pub decrement_does : (laws : InstructionLaws) (framed : Bool) (a : Known) (s : ChipState) (first : Option ChipState) (image : List (Option ℕ)) (pc : ℕ) → IsUnder framed a s first
+pub decrement_does : (laws : InstructionLaws) (framed : Bool) (a : Known) (s : ChipState) (first : Option ChipState) (image : List (Option ℕ)) (pc : ℕ)
+    → IsUnder framed a s first
     → Gives (DoesSo framed first [] pc (counted false a) s) (effect_of image s (Decrement Accumulator))
 unfolding effect_of
 decrement_does laws framed a s first image pc under =
     laws.operands.formats.implied framed first pc (counted false a) s (with_accumulator ((s.a + 255) % 256) s) (record { onward = refl; under = count_so laws framed a s first false under })
 
-pub accumulate_does : (laws : InstructionLaws) (framed : Bool) (a : Known) (s : ChipState) (first : Option ChipState) (image : List (Option ℕ)) (pc : ℕ) (done : Operation) (origin : Source) → IsUnder framed a s first → IsSource origin
+pub accumulate_does : (laws : InstructionLaws) (framed : Bool) (a : Known) (s : ChipState) (first : Option ChipState) (image : List (Option ℕ)) (pc : ℕ) (done : Operation) (origin : Source)
+    → IsUnder framed a s first → IsSource origin
     → Gives (DoesSo framed first (source_items pc a origin) pc (accumulated_known framed done origin a) s) (effect_of image s (Accumulate done origin))
 unfolding effect_of
 accumulate_does laws framed a s first image pc done (source.Immediate value) under is =
@@ -76,7 +80,8 @@ accumulate_does laws framed a s first image pc done (source.Memory m) under is =
     operand_does laws framed a s first pc m (accumulated_known framed done (source.Memory m) a) (λ x. accumulated done x s) under is
     (λ x may. record { onward = pc_stays (sets_carry done) s (accumulated done x s) (accumulated_writes done x s); under = accumulate_so laws framed a s first done (source.Memory m) x under is may })
 
-pub change_does : (laws : InstructionLaws) (framed : Bool) (a : Known) (s : ChipState) (first : Option ChipState) (image : List (Option ℕ)) (pc : ℕ) (done : AccumulatorOperation) → IsUnder framed a s first
+pub change_does : (laws : InstructionLaws) (framed : Bool) (a : Known) (s : ChipState) (first : Option ChipState) (image : List (Option ℕ)) (pc : ℕ) (done : AccumulatorOperation)
+    → IsUnder framed a s first
     → Gives (DoesSo framed first [] pc (changed_known done a) s) (effect_of image s (ChangeAccumulator done))
 unfolding effect_of
 change_does laws framed a s first image pc done under =

@@ -20,11 +20,13 @@ use Rattle.mcs51_results.specs.InstructionLaws.{InstructionLaws}
 value_small : (fact : LinearFact) (v : ℕ) → linear_value fact v < 256
 value_small fact v = mod-lt (fact.factor * v + fact.added) {m = 256} (omega arith)
 
-ram_normal : (laws : InstructionLaws) (framed : Bool) (a : Known) (place : ℕ) → place < 256 → IsKnown framed a → IsNormal 256 (ram_values a (single place))
+ram_normal : (laws : InstructionLaws) (framed : Bool) (a : Known) (place : ℕ) → place < 256 → IsKnown framed a
+    → IsNormal 256 (ram_values a (single place))
 unfolding read_byte
 ram_normal laws framed a place small form = (laws.operands.reads.form framed a form (InRam (single place)) (laws.known.sets.single 256 place small).0).normal
 
-ram_has : (laws : InstructionLaws) (framed : Bool) (a : Known) (s : ChipState) (first : Option ChipState) (place : ℕ) → place < 256 → IsUnder framed a s first
+ram_has : (laws : InstructionLaws) (framed : Bool) (a : Known) (s : ChipState) (first : Option ChipState) (place : ℕ)
+    → place < 256 → IsUnder framed a s first
     → Has 256 (ram_values a (single place)) (slice_index s.ram place)
 unfolding read_byte
 ram_has laws framed a s first place small under =
@@ -37,7 +39,8 @@ map_below f m below xs y h = let (x, there, is) = from_map f xs y h in subst (λ
 pub mapped_some : (f : ℕ → ℕ) (xs ys : List ℕ) → ys ≡ map f xs → 1 ≤ length xs → length ys ≡ 0 → ⊥
 mapped_some f xs ys same some none = let count : length ys ≡ length xs = ap length same ∙ length-map xs f in omega (arith, some, none, count)
 
-pub values_normal : (laws : InstructionLaws) (framed : Bool) (a : Known) (fact : LinearFact) → IsLinear (Some fact) → IsKnown framed a → IsNormal 256 (linear_values a fact)
+pub values_normal : (laws : InstructionLaws) (framed : Bool) (a : Known) (fact : LinearFact) → IsLinear (Some fact)
+    → IsKnown framed a → IsNormal 256 (linear_values a fact)
 unfolding linear_values
 values_normal laws framed a fact is form =
     let all = members 256 (ram_values a (single fact.place)) in
@@ -45,7 +48,8 @@ values_normal laws framed a fact is form =
     let count : length (map (linear_value fact) all) ≡ length all = length-map all (linear_value fact) in
     laws.known.sets.gather_normal 256 (map (linear_value fact) all) (omega (arith, some, count)) (map_below (linear_value fact) 256 (value_small fact) all)
 
-pub values_have : (laws : InstructionLaws) (framed : Bool) (a : Known) (s : ChipState) (first : Option ChipState) (fact : LinearFact) → IsLinear (Some fact) → IsUnder framed a s first
+pub values_have : (laws : InstructionLaws) (framed : Bool) (a : Known) (s : ChipState) (first : Option ChipState) (fact : LinearFact)
+    → IsLinear (Some fact) → IsUnder framed a s first
     → Has 256 (linear_values a fact) (linear_value fact (slice_index s.ram fact.place))
 unfolding linear_values
 values_have laws framed a s first fact is under =

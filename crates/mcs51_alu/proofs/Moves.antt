@@ -37,7 +37,8 @@ loaded_holds (Some at) s x small reads = let same = reads at refl in omega (arit
 
 -- MOV
 
-pub load_form : (laws : InstructionLaws) (framed : Bool) (a : Known) (m : Memory) → IsKnown framed a → IsMemory m → IsKnown framed (loaded framed m a)
+pub load_form : (laws : InstructionLaws) (framed : Bool) (a : Known) (m : Memory) → IsKnown framed a → IsMemory m
+    → IsKnown framed (loaded framed m a)
 unfolding loaded
 load_form laws framed a m form is =
     let addresses = addresses_of a m in
@@ -45,7 +46,8 @@ load_form laws framed a m form is =
     byte_form framed (read_byte framed a addresses) (loaded_fact addresses) a (laws.operands.reads.form framed a form addresses are)
     (loaded_is (only_address addresses) (λ at e. address_small laws.known.sets.below addresses at are e)) form
 
-pub load_so : (laws : InstructionLaws) (framed : Bool) (a : Known) (s : ChipState) (first : Option ChipState) (m : Memory) (x : ℕ) → IsUnder framed a s first
+pub load_so : (laws : InstructionLaws) (framed : Bool) (a : Known) (s : ChipState) (first : Option ChipState) (m : Memory) (x : ℕ)
+    → IsUnder framed a s first
     → IsMemory m → MayRead s (address_of s m) x
     → IsUnder framed (loaded framed m a) (with_accumulator x s) first
 unfolding loaded
@@ -59,11 +61,13 @@ load_so laws framed a s first m x under is may =
     byte_under laws framed byte (loaded_fact addresses) a s first x form holds (loaded_is (only_address addresses) (λ at e. address_small laws.known.sets.below addresses at are e))
     (loaded_holds (only_address addresses) s x (laws.known.sets.below 256 x byte.set form.normal holds.0) (λ at e. only_read addresses (address_of s m) s at x e stands may)) under
 
-pub immediate_form : (laws : InstructionLaws) (framed : Bool) (a : Known) (value : ℕ) → IsKnown framed a → value < 256 → IsKnown framed (immediate value a)
+pub immediate_form : (laws : InstructionLaws) (framed : Bool) (a : Known) (value : ℕ) → IsKnown framed a → value < 256
+    → IsKnown framed (immediate value a)
 unfolding immediate
 immediate_form laws framed a value form small = byte_form framed (byte_of (single value)) None a (plain_byte framed (single value) (laws.known.sets.single 256 value small).0) tt form
 
-pub immediate_so : (laws : InstructionLaws) (framed : Bool) (a : Known) (s : ChipState) (first : Option ChipState) (value : ℕ) → IsUnder framed a s first
+pub immediate_so : (laws : InstructionLaws) (framed : Bool) (a : Known) (s : ChipState) (first : Option ChipState) (value : ℕ)
+    → IsUnder framed a s first
     → value < 256 → IsUnder framed (immediate value a) (with_accumulator value s) first
 unfolding immediate
 immediate_so laws framed a s first value under small =
@@ -77,7 +81,8 @@ unfolding counted
 count_form laws framed a true form = byte_form framed (increased a.a) None a (laws.results.changes.increased_form framed a.a form.a) tt form
 count_form laws framed a false form = byte_form framed (decreased a.a) None a (laws.results.changes.decreased_form framed a.a form.a) tt form
 
-pub count_so : (laws : InstructionLaws) (framed : Bool) (a : Known) (s : ChipState) (first : Option ChipState) (up : Bool) → IsUnder framed a s first
+pub count_so : (laws : InstructionLaws) (framed : Bool) (a : Known) (s : ChipState) (first : Option ChipState) (up : Bool)
+    → IsUnder framed a s first
     → IsUnder framed (counted up a) (with_accumulator (if up then (s.a + 1) % 256 else (s.a + 255) % 256) s) first
 unfolding counted
 count_so laws framed a s first true under =

@@ -24,7 +24,8 @@ only_is (Values (one ∷ next ∷ rest)) at v e h = absurd (cc)
 only_is (Run p) at v e h = absurd (cc)
 
 -- what is read there is that byte
-pub only_read : (addresses : Addresses) (address : Address) (s : ChipState) (at x : ℕ) → only_address addresses ≡ Some at → MayStandAt addresses address
+pub only_read : (addresses : Addresses) (address : Address) (s : ChipState) (at x : ℕ)
+    → only_address addresses ≡ Some at → MayStandAt addresses address
     → MayRead s address x → x ≡ slice_index s.ram at
 only_read (InRam set) (AtRam place) s at x e stands may = may ∙ ap (slice_index s.ram) (only_is set at place e stands)
 only_read (InRam set) (AtSfr place) s at x e stands may = absurd stands
@@ -48,7 +49,8 @@ only_small (Values (one ∷ [])) at below e = subst (λ n. n < 256) (same_Some o
 only_small (Values (one ∷ next ∷ rest)) at below e = absurd (cc)
 only_small (Run p) at below e = absurd (cc)
 
-pub address_small : ((m v : ℕ) (set : Form) → IsNormal m set → Has m set v → v < m) → (addresses : Addresses) (at : ℕ) → AreAddresses addresses
+pub address_small : ((m v : ℕ) (set : Form) → IsNormal m set → Has m set v → v < m) → (addresses : Addresses) (at : ℕ)
+    → AreAddresses addresses
     → only_address addresses ≡ Some at → at < 256
 address_small below (InRam set) at are e = only_small set at (λ v. below 256 v set are) e
 address_small below (InSfr register) at are e = absurd (cc)

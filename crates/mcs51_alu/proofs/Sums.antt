@@ -36,11 +36,13 @@ use Rattle.mcs51_alu.proofs.Written.{Writes, before_form, before_stands, made_be
 
 -- OPERANDS
 
-operand_form : (laws : InstructionLaws) (framed : Bool) (a : Known) (origin : Source) → IsKnown framed a → IsSource origin → AreOperands (operand_of framed a origin)
+operand_form : (laws : InstructionLaws) (framed : Bool) (a : Known) (origin : Source) → IsKnown framed a
+    → IsSource origin → AreOperands (operand_of framed a origin)
 operand_form laws framed a (source.Immediate value) form is = is
 operand_form laws framed a (source.Memory m) form is = (laws.operands.reads.form framed a form (addresses_of a m) (laws.operands.stands.operand_form framed a form m is)).normal
 
-operand_so : (laws : InstructionLaws) (framed : Bool) (a : Known) (s : ChipState) (first : Option ChipState) (origin : Source) (x : ℕ) → IsUnder framed a s first
+operand_so : (laws : InstructionLaws) (framed : Bool) (a : Known) (s : ChipState) (first : Option ChipState) (origin : Source) (x : ℕ)
+    → IsUnder framed a s first
     → IsSource origin → MayBe s origin x → IsOperand (operand_of framed a origin) x
 operand_so laws framed a s first (source.Immediate value) x under is may = (is, may)
 operand_so laws framed a s first (source.Memory m) x under is may =
@@ -65,7 +67,8 @@ add_so Subb is = absurd (cc)
 
 -- RESULTS
 
-made_is : (laws : InstructionLaws) (framed : Bool) (a : Known) (done : Operation) (origin : Source) → IsKnown framed a → IsSource origin → IsMade framed (made_of framed done origin a)
+made_is : (laws : InstructionLaws) (framed : Bool) (a : Known) (done : Operation) (origin : Source) → IsKnown framed a
+    → IsSource origin → IsMade framed (made_of framed done origin a)
 made_is laws framed a done origin form is =
     let two = accumulated_made done a.a (operand_of framed a origin) a.psw in
     let twice = twice_made a.a a.psw in
@@ -125,7 +128,8 @@ more_fact fact x p s reads is = (
       ∙ more_so fact.factor (slice_index s.ram fact.place) fact.added is.0.1,
 )
 
-with_fact : (fact : LinearFact) (only : Option ℕ) (x p : ℕ) (s : ChipState) → ((at : ℕ) → only ≡ Some at → x ≡ slice_index s.ram at) → IsFact (Some fact) s
+with_fact : (fact : LinearFact) (only : Option ℕ) (x p : ℕ) (s : ChipState)
+    → ((at : ℕ) → only ≡ Some at → x ≡ slice_index s.ram at) → IsFact (Some fact) s
     → IsFact (with_byte only fact) (made_state ((s.a + x + 0) % 256) p s)
 with_fact fact None x p s reads is = (tt, tt)
 with_fact fact (Some at) x p s reads is =
@@ -153,14 +157,16 @@ behind_is a (source.Memory m) (Some fact) is = with_is (only_address (addresses_
 
 -- GATHERED
 
-gathered_is : (laws : InstructionLaws) (framed : Bool) (a : Known) (fact : Option LinearFact) (made : Made) → IsKnown framed a → IsLinear fact → IsMade framed made
+gathered_is : (laws : InstructionLaws) (framed : Bool) (a : Known) (fact : Option LinearFact) (made : Made)
+    → IsKnown framed a → IsLinear fact → IsMade framed made
     → IsMade framed (gathered_made a fact made)
 gathered_is laws framed a None made form linear is = is
 gathered_is laws framed a (Some fact) made form linear is = record { a = plain_byte framed (linear_values a fact) (values_normal laws framed a fact linear form); psw = is.psw }
 
 gathered_holds : (laws : InstructionLaws) (framed : Bool) (a : Known) (s : ChipState) (first : Option ChipState) (fact : Option LinearFact) (made : Made) (x p : ℕ)
     → IsUnder framed a s first → IsFact fact (made_state x p s)
-    → HoldsOfMade (option_map suspended_of first) made (made_state x p s) → HoldsOfMade (option_map suspended_of first) (gathered_made a fact made) (made_state x p s)
+    → HoldsOfMade (option_map suspended_of first) made (made_state x p s)
+    → HoldsOfMade (option_map suspended_of first) (gathered_made a fact made) (made_state x p s)
 gathered_holds laws framed a s first None made x p under fact holds = holds
 gathered_holds laws framed a s first (Some fact) made x p under is holds = record {
   a = (subst (Has 256 (linear_values a fact)) (sym is.1) (values_have laws framed a s first fact is.0 under), tt);
@@ -169,7 +175,8 @@ gathered_holds laws framed a s first (Some fact) made x p under is holds = recor
 
 -- BEHIND THE OPERATION
 
-added_is : (laws : InstructionLaws) (framed : Bool) (a : Known) (done : Operation) (origin : Source) → IsKnown framed a → IsLinear (added_fact done a origin)
+added_is : (laws : InstructionLaws) (framed : Bool) (a : Known) (done : Operation) (origin : Source) → IsKnown framed a
+    → IsLinear (added_fact done a origin)
 added_is laws framed a Add origin form = behind_is a origin a.linear_fact form.linear_fact
 added_is laws framed a Addc origin form = tt
 added_is laws framed a Orl origin form = tt
@@ -178,7 +185,8 @@ added_is laws framed a Xrl origin form = tt
 added_is laws framed a Subb origin form = tt
 
 added_holds : (laws : InstructionLaws) (framed : Bool) (a : Known) (s : ChipState) (first : Option ChipState) (done : Operation) (origin : Source) (x p : ℕ)
-    → IsUnder framed a s first → IsSource origin → MayBe s origin x → IsFact (added_fact done a origin) (made_state (accumulated done x s).a p s)
+    → IsUnder framed a s first → IsSource origin → MayBe s origin x
+    → IsFact (added_fact done a origin) (made_state (accumulated done x s).a p s)
 added_holds laws framed a s first Add origin x p under is may =
     behind_fact laws framed a s first a.linear_fact origin x p under is may (under.form.linear_fact, under.holds.parts.linear_fact)
 added_holds laws framed a s first Addc origin x p under is may = (tt, tt)
@@ -187,7 +195,8 @@ added_holds laws framed a s first Anl origin x p under is may = (tt, tt)
 added_holds laws framed a s first Xrl origin x p under is may = (tt, tt)
 added_holds laws framed a s first Subb origin x p under is may = (tt, tt)
 
-pub accumulate_form : (laws : InstructionLaws) (framed : Bool) (a : Known) (done : Operation) (origin : Source) → IsKnown framed a → IsSource origin
+pub accumulate_form : (laws : InstructionLaws) (framed : Bool) (a : Known) (done : Operation) (origin : Source)
+    → IsKnown framed a → IsSource origin
     → IsKnown framed (accumulated_known framed done origin a)
 unfolding accumulated_known
 accumulate_form laws framed a done origin form is =
@@ -213,7 +222,8 @@ number_below laws framed a s first (source.Memory m) x under is may =
     laws.known.sets.below 256 x (read_byte framed a (addresses_of a m)).set set.normal set.has
 
 pub accumulate_so : (laws : InstructionLaws) (framed : Bool) (a : Known) (s : ChipState) (first : Option ChipState) (done : Operation) (origin : Source) (x : ℕ)
-    → IsUnder framed a s first → IsSource origin → MayBe s origin x → IsUnder framed (accumulated_known framed done origin a) (accumulated done x s) first
+    → IsUnder framed a s first → IsSource origin → MayBe s origin x
+    → IsUnder framed (accumulated_known framed done origin a) (accumulated done x s) first
 unfolding accumulated_known
 accumulate_so laws framed a s first done origin x under is may =
     let t = accumulated done x s in

@@ -43,7 +43,8 @@ left_is false None is = tt
 left_is false (Some fact) is = cond_both (is_accumulator fact.compared) None (Some fact) IsCarry (λ e. tt) (λ e. is)
 
 beside_stays : (place : Compared) (bound x p : ℕ) (s : ChipState) → s.psw ≡ p → is_accumulator place ≡ false
-    → HoldsOfCarry (Some (record { compared = place; bound = bound })) s → HoldsOfCarry (Some (record { compared = place; bound = bound })) (made_state x p s)
+    → HoldsOfCarry (Some (record { compared = place; bound = bound })) s
+    → HoldsOfCarry (Some (record { compared = place; bound = bound })) (made_state x p s)
 beside_stays Accumulator bound x p s same other holds = absurd (cc)
 beside_stays (Ram at) bound x p s same other holds = ap (λ n. bit_at n 7) (sym same) ∙ holds
 
@@ -57,12 +58,14 @@ left_holds false (Some fact) x p s same holds =
 
 -- WRITTEN
 
-pub made_form : (framed : Bool) (made : Made) (sets : Bool) (linear : Option LinearFact) (a : Known) → IsMade framed made → IsLinear linear → IsKnown framed a
+pub made_form : (framed : Bool) (made : Made) (sets : Bool) (linear : Option LinearFact) (a : Known)
+    → IsMade framed made → IsLinear linear → IsKnown framed a
     → IsKnown framed (with_made made sets linear a)
 made_form framed made sets linear a is linear_is form = let carry_is = left_is sets a.carry_fact form.carry_fact in assumption (form, is, linear_is, carry_is)
 
 pub made_under : (framed : Bool) (made : Made) (sets : Bool) (linear : Option LinearFact) (a : Known) (s t : ChipState) (first : Option ChipState)
-    → Writes sets s t → IsChipState t → IsMade framed made → HoldsOfMade (option_map suspended_of first) made t → IsLinear linear → HoldsOfLinear linear t
+    → Writes sets s t → IsChipState t → IsMade framed made → HoldsOfMade (option_map suspended_of first) made t
+    → IsLinear linear → HoldsOfLinear linear t
     → IsUnder framed a s first → IsUnder framed (with_made made sets linear a) t first
 made_under framed made sets linear a s t first writes state is holds linear_is linear_holds under =
     let after : ChipState = made_state t.a t.psw s in
@@ -90,13 +93,15 @@ before_stands framed a s first under = record {
 }
 
 -- the accumulator alone
-pub byte_form : (framed : Bool) (byte : Byte) (linear : Option LinearFact) (a : Known) → IsByte framed byte → IsLinear linear → IsKnown framed a
+pub byte_form : (framed : Bool) (byte : Byte) (linear : Option LinearFact) (a : Known) → IsByte framed byte
+    → IsLinear linear → IsKnown framed a
     → IsKnown framed (with_byte byte linear a)
 byte_form framed byte linear a is linear_is form =
     made_form framed (record { a = byte; psw = a.psw }) false linear a (record { a = is; psw = record { bits = form.bits; entry = form.psw } }) linear_is form
 
 pub byte_under : (laws : InstructionLaws) (framed : Bool) (byte : Byte) (linear : Option LinearFact) (a : Known) (s : ChipState) (first : Option ChipState) (x : ℕ)
-    → IsByte framed byte → HoldsOfByte (option_map suspended_of first) byte x → IsLinear linear → HoldsOfLinear linear (with_accumulator x s)
+    → IsByte framed byte → HoldsOfByte (option_map suspended_of first) byte x → IsLinear linear
+    → HoldsOfLinear linear (with_accumulator x s)
     → IsUnder framed a s first → IsUnder framed (with_byte byte linear a) (with_accumulator x s) first
 byte_under laws framed byte linear a s first x is holds linear_is linear_holds under =
     made_under framed (record { a = byte; psw = a.psw }) false linear a s (with_accumulator x s) first (record { state = refl; psw = λ e. refl })

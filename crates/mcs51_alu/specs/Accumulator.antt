@@ -36,7 +36,8 @@ carry_left true fact = None
 carry_left false fact = carry_unless is_accumulator fact
 
 abbrev pub with_made : Made → (sets_carry : Bool) → Option LinearFact → Known → Known
-with_made made sets_carry fact a = record a { a = made.a; psw = made.psw; linear_fact = fact; carry_fact = carry_left sets_carry a.carry_fact }
+with_made made sets_carry fact a =
+    record a { a = made.a; psw = made.psw; linear_fact = fact; carry_fact = carry_left sets_carry a.carry_fact }
 
 -- the accumulator alone is written
 abbrev pub with_byte : Byte → Option LinearFact → Known → Known

@@ -15,7 +15,8 @@ carry_place psw = omega arith
 pub carry_there : (bits : List Tri) (psw : ℕ) → Agrees bits (psw / 4) → IsBit (slice_index_or bits 5 Either) (bit_at psw 7)
 carry_there bits psw agrees = subst (IsBit (slice_index_or bits 5 Either)) (carry_place psw) (bits_at bits 5 (psw / 4) agrees)
 
-pub carry_seen : (bits : List Tri) (psw : ℕ) (bit : Tri) → length bits ≡ 6 → Agrees bits (psw / 4) → IsBit bit (bit_at psw 7) → Agrees (set bits 5 bit) (psw / 4)
+pub carry_seen : (bits : List Tri) (psw : ℕ) (bit : Tri) → length bits ≡ 6 → Agrees bits (psw / 4)
+    → IsBit bit (bit_at psw 7) → Agrees (set bits 5 bit) (psw / 4)
 carry_seen bits psw bit long agrees is = bits_put bits 5 (psw / 4) bit (omega (arith, long)) agrees (subst (IsBit bit) (sym (carry_place psw)) is)
 
 pub put_long : (bits : List Tri) (bit : Tri) → length bits ≡ 6 → length (set bits 5 bit) ≡ 6

@@ -17,14 +17,16 @@ use Rattle.mcs51_state.specs.Forms.{IsChipCell, IsRelation}
 
 -- READING
 
-pub cell_read : (laws : CellLaws) (first : Option Suspended) (ram : ℕ → ℕ) (at : ℕ) (cells : List Cell) → AreCells 0 255 0 cells → at < 65536
+pub cell_read : (laws : CellLaws) (first : Option Suspended) (ram : ℕ → ℕ) (at : ℕ) (cells : List Cell)
+    → AreCells 0 255 0 cells → at < 65536
     → StandsUnder first cells ram → HoldsOfWord first (read cells at 1) (ram at)
 cell_read laws first ram at cells are below stands = laws.reads first ram 0 255 0 at 1 cells are below (inl refl) stands
 
 pub cell_normal : (laws : CellLaws) (at : ℕ) (cells : List Cell) → AreCells 0 255 0 cells → IsNormal 65536 (read cells at 1).set
 cell_normal laws at cells are = laws.read_normal 0 255 0 at 1 cells are
 
-found_relation : (framed : Bool) (cells : List Cell) (at size : ℕ) (otherwise : Word) → All (IsChipCell framed) cells → IsRelation framed otherwise.entry
+found_relation : (framed : Bool) (cells : List Cell) (at size : ℕ) (otherwise : Word) → All (IsChipCell framed) cells
+    → IsRelation framed otherwise.entry
     → IsRelation framed (found_or (cell_at cells at size) otherwise).entry
 found_relation framed [] at size otherwise forms none = none
 found_relation framed (cell ∷ cells) at size otherwise forms none =
@@ -32,7 +34,8 @@ found_relation framed (cell ∷ cells) at size otherwise forms none =
     (λ e. (All-head (IsChipCell framed) cell cells forms).entry)
     (λ e. found_relation framed cells at size otherwise (All-tail (IsChipCell framed) cell cells forms) none)
 
-pub read_relation : (framed : Bool) (cells : List Cell) (at size : ℕ) → All (IsChipCell framed) cells → IsRelation framed (read cells at size).entry
+pub read_relation : (framed : Bool) (cells : List Cell) (at size : ℕ) → All (IsChipCell framed) cells
+    → IsRelation framed (read cells at size).entry
 unfolding read
 read_relation framed cells at size forms = found_relation framed cells at size (put_together cells at size) forms (no_relation framed)
 
@@ -45,7 +48,8 @@ insert_each P cell (first ∷ cells) is each =
     (λ e. All-cons P cell (first ∷ cells) is each)
     (λ e. All-cons P first (insert cell cells) (All-head P first cells each) (insert_each P cell cells is (All-tail P first cells each)))
 
-pub write_each : (P : Cell → Type 0) (map : CellMap) (at size : ℕ) (word : Word) → P (record { place = at; size = size; word = word }) → All P map.cells
+pub write_each : (P : Cell → Type 0) (map : CellMap) (at size : ℕ) (word : Word)
+    → P (record { place = at; size = size; word = word }) → All P map.cells
     → All P (write_one map at size word).cells
 unfolding write_one
 write_each P map at size word is each =
@@ -74,7 +78,8 @@ cell_put_form laws at map word from up_to are normal bytes =
     subst (λ lo. AreCells lo 255 0 (write_one map at 1 word).cells) from (subst (λ hi. AreCells map.lo hi 0 (write_one map at 1 word).cells) up_to put)
 
 pub cells_alike : (laws : CellLaws) (first : Option Suspended) (one other : ℕ → ℕ) (cells : List Cell) → AreCells 0 255 0 cells
-    → ((at : ℕ) → other at < 256) → ((at : ℕ) → 0 ≤ at → at ≤ 255 → one at ≡ other at) → StandsUnder first cells one → StandsUnder first cells other
+    → ((at : ℕ) → other at < 256) → ((at : ℕ) → 0 ≤ at → at ≤ 255 → one at ≡ other at) → StandsUnder first cells one
+    → StandsUnder first cells other
 cells_alike laws first one other cells are bytes same stands = laws.agree first one other 0 255 0 cells (omega arith) are bytes same stands
 
 -- a byte that is written as it was

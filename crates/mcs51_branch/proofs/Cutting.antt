@@ -24,6 +24,7 @@ part_has laws v set window normal has is =
     let found = some_part (cut 256 set window.low window.len) (λ none. let out = laws.cut_none 256 window.low window.len v set normal is.low none has in omega (arith, out, is.inside)) in
     (found.0, found.1, laws.cut_normal 256 window.low window.len set found.0 normal is.low found.1, laws.cut_holds 256 window.low window.len v set found.0 normal is.low found.1 has is.inside)
 
-pub part_normal : (laws : SetLaws) (set part : Form) (window : Window) → IsNormal 256 set → window.low < 256 → cut_to window set ≡ Some part → IsNormal 256 part
+pub part_normal : (laws : SetLaws) (set part : Form) (window : Window) → IsNormal 256 set → window.low < 256
+    → cut_to window set ≡ Some part → IsNormal 256 part
 unfolding cut_to
 part_normal laws set part window normal low e = laws.cut_normal 256 window.low window.len set part normal low e

@@ -27,11 +27,13 @@ use Rattle.mcs51_branch.proofs.Cutting.{IsInside, part_has, part_normal}
 
 -- WHAT IS KNOWN
 
-pub set_normal : (laws : KnownLaws) (framed : Bool) (place : Compared) (known : Known) → IsKnown framed known → IsNormal 256 (set_at place known)
+pub set_normal : (laws : KnownLaws) (framed : Bool) (place : Compared) (known : Known) → IsKnown framed known
+    → IsNormal 256 (set_at place known)
 set_normal laws framed Accumulator known form = form.a.normal
 set_normal laws framed (Ram at) known form = laws.bits.low_normal (read known.cells.cells at 1).set (cell_normal laws.cells at known.cells.cells form.cells)
 
-pub set_has : (laws : KnownLaws) (framed : Bool) (place : Compared) (known : Known) (s : ChipState) (first : Option ChipState) → IsCompared place
+pub set_has : (laws : KnownLaws) (framed : Bool) (place : Compared) (known : Known) (s : ChipState) (first : Option ChipState)
+    → IsCompared place
     → IsUnder framed known s first → Has 256 (set_at place known) (compared_in place s)
 set_has laws framed Accumulator known s first is under = under.holds.parts.a.0
 set_has laws framed (Ram at) known s first is under =
@@ -73,7 +75,8 @@ with_set_form laws framed (Ram at) known set is normal form =
     assumption (form, from, up_to, cells, each_cell)
 
 pub with_set_under : (laws : KnownLaws) (framed : Bool) (place : Compared) (known : Known) (set : Form) (s : ChipState) (first : Option ChipState)
-    → IsCompared place → IsNormal 256 set → Has 256 set (compared_in place s) → IsUnder framed known s first → IsUnder framed (with_set place known set) s first
+    → IsCompared place → IsNormal 256 set → Has 256 set (compared_in place s) → IsUnder framed known s first
+    → IsUnder framed (with_set place known set) s first
 unfolding with_set
 with_set_under laws framed Accumulator known set s first is normal has under =
     let held : HoldsOfByte (option_map suspended_of first) (record { set = set; entry = known.a.entry }) s.a = (has, under.holds.parts.a.1) in
@@ -110,7 +113,8 @@ place_way laws framed place window known s first is inside under =
       with_set_under laws framed place known part s first is normal has under,
     )
 
-pub place_way_form : (laws : KnownLaws) (framed : Bool) (place : Compared) (window : Window) (known way : Known) → IsCompared place → window.low < 256
+pub place_way_form : (laws : KnownLaws) (framed : Bool) (place : Compared) (window : Window) (known way : Known)
+    → IsCompared place → window.low < 256
     → IsKnown framed known → place_cut place window known ≡ Some way → IsKnown framed way
 place_way_form laws framed place window known way is low form e =
     let (part, cut, same) = mapped (with_set place known) (cut_to window (set_at place known)) way e in

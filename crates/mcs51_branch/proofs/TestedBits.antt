@@ -52,28 +52,32 @@ record IsLeft (place : ℕ) (bit : Bool) (byte left : Byte) : Type 0 where
 abbrev with_numbers : Byte → Form → Byte
 with_numbers byte set_so = record { set = set_so; entry = byte.entry }
 
-byte_left : (laws : KnownLaws) (byte : Byte) (place v : ℕ) (bit : Bool) → IsNormal 256 byte.set → Has 256 byte.set v → place < 8 → bit_at v place ≡ bit_of bit
+byte_left : (laws : KnownLaws) (byte : Byte) (place v : ℕ) (bit : Bool) → IsNormal 256 byte.set → Has 256 byte.set v
+    → place < 8 → bit_at v place ≡ bit_of bit
     → (left : Byte) × IsLeft place bit byte left
 unfolding byte_tested
 byte_left laws byte place v bit normal has low so =
     let found = tested_has laws byte.set place v bit normal has low so in
     (with_numbers byte found.0, record { is = ap (option_map (with_numbers byte)) found.1; normal = found.2; entry = refl; has = found.3 })
 
-byte_normal : (laws : KnownLaws) (byte left : Byte) (place : ℕ) (bit : Bool) → IsNormal 256 byte.set → byte_tested place bit byte ≡ Some left
+byte_normal : (laws : KnownLaws) (byte left : Byte) (place : ℕ) (bit : Bool) → IsNormal 256 byte.set
+    → byte_tested place bit byte ≡ Some left
     → IsNormal 256 left.set × (left.entry ≡ byte.entry)
 unfolding byte_tested
 byte_normal laws byte left place bit normal e =
     let (part, cut, same) = mapped (with_numbers byte) (tested place bit byte.set) left e in
     (subst (λ (b : Byte). IsNormal 256 b.set) same (tested_normal laws byte.set part place bit normal cut), ap (λ (b : Byte). b.entry) (sym same))
 
-left_holds : (first : Option Suspended) (place v : ℕ) (bit : Bool) (byte left : Byte) → IsLeft place bit byte left → bit_at v place ≡ bit_of bit
+left_holds : (first : Option Suspended) (place v : ℕ) (bit : Bool) (byte left : Byte) → IsLeft place bit byte left
+    → bit_at v place ≡ bit_of bit
     → HoldsOfByte first byte v → HoldsOfByte first left v
 left_holds first place v bit byte left is so holds = (is.has v holds.0 so, subst (λ entry. IsFromEntry first entry v) (sym is.entry) holds.1)
 
 byte_form : (framed : Bool) (byte left : Byte) → IsNormal 256 left.set → left.entry ≡ byte.entry → IsByte framed byte → IsByte framed left
 byte_form framed byte left normal same form = record { normal = normal; entry = subst (IsRelation framed) (sym same) form.entry }
 
-own_form : (framed : Bool) (own unheld : ℕ) (byte left : Byte) → IsNormal 256 left.set → left.entry ≡ byte.entry → IsOwnByte framed own unheld byte
+own_form : (framed : Bool) (own unheld : ℕ) (byte left : Byte) → IsNormal 256 left.set → left.entry ≡ byte.entry
+    → IsOwnByte framed own unheld byte
     → IsOwnByte framed own unheld left
 own_form framed own unheld byte left normal same form = record { normal = normal; entry = subst (IsOwnRelation framed own unheld) (sym same) form.entry }
 
@@ -89,7 +93,8 @@ ip_bit ip free place below = of_eight (λ n. n < 6 → bit_at (ip + 64 * free) n
     (λ l. omega (arith, below)) (λ l. omega (arith, below)) (λ l. omega (arith, below)) (λ l. omega (arith, below))
     (λ l. omega (arith, below)) (λ l. omega (arith, below)) (λ l. absurd (omega (arith, l))) (λ l. absurd (omega (arith, l))) place
 
-psw_bit : (psw free odd place : ℕ) → psw % 4 ≡ 0 → free < 2 → odd < 2 → place < 8 → (place < 2 → ⊥) → bit_at (psw + 2 * free + odd) place ≡ bit_at psw place
+psw_bit : (psw free odd place : ℕ) → psw % 4 ≡ 0 → free < 2 → odd < 2 → place < 8 → (place < 2 → ⊥)
+    → bit_at (psw + 2 * free + odd) place ≡ bit_at psw place
 psw_bit psw free odd place held small also = of_eight (λ n. (n < 2 → ⊥) → bit_at (psw + 2 * free + odd) n ≡ bit_at psw n)
     (λ high. absurd (high (omega arith))) (λ high. absurd (high (omega arith))) (λ high. omega (arith, held, small, also)) (λ high. omega (arith, held, small, also))
     (λ high. omega (arith, held, small, also)) (λ high. omega (arith, held, small, also)) (λ high. omega (arith, held, small, also))
@@ -104,7 +109,8 @@ psw_shifted psw place = of_eight (λ n. (n < 2 → ⊥) → bit_at (psw / 4) (n 
 
 -- a cell that is cut, or stays, stands under what is left
 left_under : (laws : KnownLaws) (framed : Bool) (whole : Form) (at : ℕ) (known : Known) (left : Form) (s : ChipState) (first : Option ChipState)
-    → at < 256 → IsNormal 256 left → Has 256 left (slice_index s.ram at) → IsUnder framed known s first → IsUnder framed (with_left whole at known left) s first
+    → at < 256 → IsNormal 256 left → Has 256 left (slice_index s.ram at) → IsUnder framed known s first
+    → IsUnder framed (with_left whole at known left) s first
 left_under laws framed (Values xs) at known left s first is normal has under = with_set_under laws framed (Ram at) known left s first is normal has under
 left_under laws framed (Run p) at known left s first is normal has under = under
 
@@ -124,7 +130,8 @@ ram_way laws framed known s first at place bit under is low so =
 -- A, B, IE and IP: where the bits that each may be read with are those that the chip read, what is left of it stands for the
 -- state
 own_way : (laws : KnownLaws) (framed : Bool) (s : ChipState) (first : Option ChipState) (sfr : Sfr) (put : Byte → Known) (byte : Byte) (x place : ℕ) (bit : Bool)
-    → IsNormal 256 byte.set → HoldsOfReads (option_map suspended_of first) byte s sfr → MayReadSfr s sfr x → place < 8 → bit_at x place ≡ bit_of bit
+    → IsNormal 256 byte.set → HoldsOfReads (option_map suspended_of first) byte s sfr → MayReadSfr s sfr x → place < 8
+    → bit_at x place ≡ bit_of bit
     → ((y : ℕ) → MayReadSfr s sfr y → bit_at y place ≡ bit_at x place)
     → ((left : Byte) → IsNormal 256 left.set → left.entry ≡ byte.entry → HoldsOfReads (option_map suspended_of first) left s sfr → IsUnder framed (put left) s first)
     → Way framed (option_map put (byte_tested place bit byte)) s first
@@ -135,21 +142,26 @@ own_way laws framed s first sfr put byte x place bit normal holds may low so sam
       under left is.normal is.entry (λ y reads. left_holds (option_map suspended_of first) place y bit byte left is (same y reads ∙ so) (holds y reads)),
     )
 
-a_way : (laws : KnownLaws) (framed : Bool) (known : Known) (s : ChipState) (first : Option ChipState) (x place : ℕ) (bit : Bool) → IsUnder framed known s first
-    → x ≡ s.a → place < 8 → bit_at x place ≡ bit_of bit → Way framed (option_map (λ (a : Byte). record known { a = a }) (byte_tested place bit known.a)) s first
+a_way : (laws : KnownLaws) (framed : Bool) (known : Known) (s : ChipState) (first : Option ChipState) (x place : ℕ) (bit : Bool)
+    → IsUnder framed known s first
+    → x ≡ s.a → place < 8 → bit_at x place ≡ bit_of bit
+    → Way framed (option_map (λ (a : Byte). record known { a = a }) (byte_tested place bit known.a)) s first
 a_way laws framed known s first x place bit under may low so =
     own_way laws framed s first Acc (λ (a : Byte). record known { a = a }) known.a x place bit under.form.a.normal
     (λ y is. subst (HoldsOfByte (option_map suspended_of first) known.a) (sym is) under.holds.parts.a) may low so (λ y is. ap (λ n. bit_at n place) (is ∙ sym may))
     (λ left normal entry reads. let form = byte_form framed known.a left normal entry under.form.a in let holds = reads s.a refl in assumption (under, form, holds))
 
-b_way : (laws : KnownLaws) (framed : Bool) (known : Known) (s : ChipState) (first : Option ChipState) (x place : ℕ) (bit : Bool) → IsUnder framed known s first
-    → x ≡ s.b → place < 8 → bit_at x place ≡ bit_of bit → Way framed (option_map (λ (b : Byte). record known { b = b }) (byte_tested place bit known.b)) s first
+b_way : (laws : KnownLaws) (framed : Bool) (known : Known) (s : ChipState) (first : Option ChipState) (x place : ℕ) (bit : Bool)
+    → IsUnder framed known s first
+    → x ≡ s.b → place < 8 → bit_at x place ≡ bit_of bit
+    → Way framed (option_map (λ (b : Byte). record known { b = b }) (byte_tested place bit known.b)) s first
 b_way laws framed known s first x place bit under may low so =
     own_way laws framed s first B (λ (b : Byte). record known { b = b }) known.b x place bit under.form.b.normal
     (λ y is. subst (HoldsOfByte (option_map suspended_of first) known.b) (sym is) under.holds.parts.b) may low so (λ y is. ap (λ n. bit_at n place) (is ∙ sym may))
     (λ left normal entry reads. let form = byte_form framed known.b left normal entry under.form.b in let holds = reads s.b refl in assumption (under, form, holds))
 
-ie_way : (laws : KnownLaws) (framed : Bool) (known : Known) (s : ChipState) (first : Option ChipState) (x place : ℕ) (bit : Bool) → IsUnder framed known s first
+ie_way : (laws : KnownLaws) (framed : Bool) (known : Known) (s : ChipState) (first : Option ChipState) (x place : ℕ) (bit : Bool)
+    → IsUnder framed known s first
     → MayReadSfr s Ie x → place < 8 → (place ≡ 6 → ⊥) → bit_at x place ≡ bit_of bit
     → Way framed (option_map (λ (ie : Byte). record known { ie = ie }) (byte_tested place bit known.ie)) s first
 ie_way laws framed known s first x place bit under may low other so =
@@ -159,7 +171,8 @@ ie_way laws framed known s first x place bit under may low other so =
     (λ y reads. held y reads ∙ sym (held x may))
     (λ left normal entry reads. let form = own_form framed ie_place 64 known.ie left normal entry under.form.ie in assumption (under, form, reads))
 
-ip_way : (laws : KnownLaws) (framed : Bool) (known : Known) (s : ChipState) (first : Option ChipState) (x place : ℕ) (bit : Bool) → IsUnder framed known s first
+ip_way : (laws : KnownLaws) (framed : Bool) (known : Known) (s : ChipState) (first : Option ChipState) (x place : ℕ) (bit : Bool)
+    → IsUnder framed known s first
     → MayReadSfr s Ip x → place < 8 → place < 6 → bit_at x place ≡ bit_of bit
     → Way framed (option_map (λ (ip : Byte). record known { ip = ip }) (byte_tested place bit known.ip)) s first
 ip_way laws framed known s first x place bit under may low held_there so =
@@ -169,7 +182,8 @@ ip_way laws framed known s first x place bit under may low held_there so =
     (λ y reads. held y reads ∙ sym (held x may))
     (λ left normal entry reads. let form = own_form framed ip_place 192 known.ip left normal entry under.form.ip in assumption (under, form, reads))
 
-seen_way : (framed : Bool) (known : Known) (s : ChipState) (first : Option ChipState) (place : ℕ) (bit : Bool) → IsUnder framed known s first → (place < 2 → ⊥)
+seen_way : (framed : Bool) (known : Known) (s : ChipState) (first : Option ChipState) (place : ℕ) (bit : Bool)
+    → IsUnder framed known s first → (place < 2 → ⊥)
     → place < 8 → bit_at s.psw place ≡ bit_of bit
     → Way framed (if may_be (slice_index_or known.psw.bits (place - 2) Either) bit then Some (with_seen_bit place bit known) else None) s first
 seen_way framed known s first place bit under high low so =
@@ -185,7 +199,8 @@ seen_way framed known s first place bit under high low so =
     let count = length-set bits (place - 2) (known_flag bit) ∙ long in
     (with_seen_bit place bit known, cond-true (may_be t bit) (Some (with_seen_bit place bit known)) None may, assumption (under, count, put))
 
-status_way : (framed : Bool) (known : Known) (s : ChipState) (first : Option ChipState) (place x : ℕ) (bit : Bool) → IsUnder framed known s first → place < 8
+status_way : (framed : Bool) (known : Known) (s : ChipState) (first : Option ChipState) (place x : ℕ) (bit : Bool)
+    → IsUnder framed known s first → place < 8
     → MayReadSfr s Psw x → bit_at x place ≡ bit_of bit
     → Way framed (status_tested place bit known) s first
 unfolding status_tested
@@ -224,7 +239,8 @@ bit_way laws framed known s first (InSfr at) x place bit under is may low so = r
 
 -- FORM
 
-status_form : (framed : Bool) (known way : Known) (place : ℕ) (bit : Bool) → IsKnown framed known → status_tested place bit known ≡ Some way → IsKnown framed way
+status_form : (framed : Bool) (known way : Known) (place : ℕ) (bit : Bool) → IsKnown framed known
+    → status_tested place bit known ≡ Some way → IsKnown framed way
 unfolding status_tested
 status_form framed known way place bit form e =
     let bits = known.psw.bits in
@@ -236,7 +252,8 @@ status_form framed known way place bit form e =
     (λ may there. subst (IsKnown framed) (same_Some seen way there) (let count = length-set bits (place - 2) (known_flag bit) ∙ form.bits in assumption (form, count)))
     (λ may there. absurd (cc))) e
 
-own_way_form : (laws : KnownLaws) (framed : Bool) (way : Known) (put : Byte → Known) (byte : Byte) (place : ℕ) (bit : Bool) → IsNormal 256 byte.set
+own_way_form : (laws : KnownLaws) (framed : Bool) (way : Known) (put : Byte → Known) (byte : Byte) (place : ℕ) (bit : Bool)
+    → IsNormal 256 byte.set
     → ((left : Byte) → IsNormal 256 left.set → left.entry ≡ byte.entry → IsKnown framed (put left))
     → option_map put (byte_tested place bit byte) ≡ Some way → IsKnown framed way
 own_way_form laws framed way put byte place bit normal each e =
@@ -284,7 +301,8 @@ ram_form laws framed known way at place bit form is e =
     let normal = tested_normal laws whole left place bit (set_normal laws framed (Ram at) known form) cut in
     subst (IsKnown framed) same (left_form laws framed whole at known left is normal form)
 
-pub bit_way_form : (laws : KnownLaws) (framed : Bool) (known way : Known) (address : Address) (place : ℕ) (bit : Bool) → IsKnown framed known → IsPlace address
+pub bit_way_form : (laws : KnownLaws) (framed : Bool) (known way : Known) (address : Address) (place : ℕ) (bit : Bool)
+    → IsKnown framed known → IsPlace address
     → place < 8 → bit_tested address place bit known ≡ Some way → IsKnown framed way
 unfolding bit_tested
 bit_way_form laws framed known way (InRam at) place bit form is low e = ram_form laws framed known way at place bit form is e

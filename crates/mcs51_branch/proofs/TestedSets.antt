@@ -22,19 +22,22 @@ gathered_has : (laws : KnownLaws) (xs : List ℕ) (v : ℕ) → ((n : ℕ) → C
 gathered_has laws [] v below h = absurd (in_none v h)
 gathered_has laws (x ∷ xs) v below h = (gather 256 (x ∷ xs), refl, laws.sets.gather_normal 256 (x ∷ xs) (omega arith) below, λ n there. laws.sets.gather_holds 256 n (x ∷ xs) below there)
 
-gathered_normal : (laws : KnownLaws) (xs : List ℕ) (part : Form) → ((n : ℕ) → Contains xs n → n < 256) → gathered xs ≡ Some part → IsNormal 256 part
+gathered_normal : (laws : KnownLaws) (xs : List ℕ) (part : Form) → ((n : ℕ) → Contains xs n → n < 256)
+    → gathered xs ≡ Some part → IsNormal 256 part
 gathered_normal laws [] part below e = absurd (cc)
 gathered_normal laws (x ∷ xs) part below e = subst (IsNormal 256) (same_Some (gather 256 (x ∷ xs)) part e) (laws.sets.gather_normal 256 (x ∷ xs) (omega arith) below)
 
 -- the numbers of a list in its one form
-pub list_below : ((m v : ℕ) (set : Form) → IsNormal m set → Has m set v → v < m) → (xs ys : List ℕ) → ys ≡ xs → IsNormal 256 (Values xs) → (k d : ℕ)
+pub list_below : ((m v : ℕ) (set : Form) → IsNormal m set → Has m set v → v < m) → (xs ys : List ℕ) → ys ≡ xs
+    → IsNormal 256 (Values xs) → (k d : ℕ)
     → k < length ys → get_or ys k d < 256
 list_below below xs ys same normal k d inside = below 256 (get_or ys k d) (Values xs) normal (subst (λ list. Contains list (get_or ys k d)) same (Contains-get_or ys k d inside))
 
 -- SETS
 
 -- where one number has the bit so, what is left has each such number
-pub tested_has : (laws : KnownLaws) (set : Form) (place v : ℕ) (bit : Bool) → IsNormal 256 set → Has 256 set v → place < 8 → bit_at v place ≡ bit_of bit
+pub tested_has : (laws : KnownLaws) (set : Form) (place v : ℕ) (bit : Bool) → IsNormal 256 set → Has 256 set v
+    → place < 8 → bit_at v place ≡ bit_of bit
     → (part : Form) × (tested place bit set ≡ Some part) × IsNormal 256 part × ((n : ℕ) → Has 256 set n → bit_at n place ≡ bit_of bit → Has 256 part n)
 unfolding tested
 tested_has laws (Values xs) place v bit normal has low is =
@@ -47,7 +50,8 @@ tested_has laws (Run p) place v bit normal has low is =
     let may : may_be t bit ≡ true = flag_may t bit (subst (IsBit t) is (laws.bits.bits_at (known_bits 8 (Run p)) place v (laws.bits.known 8 v (Run p) normal has))) in
     (Run p, cond-true (may_be t bit) (Some (Run p)) None may, normal, λ n there so. there)
 
-pub tested_normal : (laws : KnownLaws) (set part : Form) (place : ℕ) (bit : Bool) → IsNormal 256 set → tested place bit set ≡ Some part → IsNormal 256 part
+pub tested_normal : (laws : KnownLaws) (set part : Form) (place : ℕ) (bit : Bool) → IsNormal 256 set
+    → tested place bit set ≡ Some part → IsNormal 256 part
 unfolding tested
 tested_normal laws (Values xs) part place bit normal e =
     let test = has_bit place bit in

@@ -42,13 +42,15 @@ use Rattle.mcs51_branch.proofs.Windows.{equality_inside, equality_low, order_ins
 abbrev Goes : Bool → Option Known → ChipState → Option ChipState → Type 0
 Goes framed cut s first = (way : Known) × (cut ≡ Some way) × IsUnder framed way s first
 
-compared_below : (framed : Bool) (place : Compared) (known : Known) (s : ChipState) (first : Option ChipState) → IsUnder framed known s first → compared_in place s < 256
+compared_below : (framed : Bool) (place : Compared) (known : Known) (s : ChipState) (first : Option ChipState)
+    → IsUnder framed known s first → compared_in place s < 256
 compared_below framed Accumulator known s first under = under.holds.state.a
 compared_below framed (Ram at) known s first under = under.holds.parts.cells.0 at
 
 -- JC AND JNC
 
-fact_way : (laws : KnownLaws) (framed : Bool) (fact : Option CarryFact) (known : Known) (s : ChipState) (first : Option ChipState) → IsCarry fact
+fact_way : (laws : KnownLaws) (framed : Bool) (fact : Option CarryFact) (known : Known) (s : ChipState) (first : Option ChipState)
+    → IsCarry fact
     → HoldsOfCarry fact s → IsUnder framed known s first
     → Goes framed (fact_cut fact (carry_of s == 1) known) s first
 fact_way laws framed None known s first is told under = (known, refl, under)
@@ -70,12 +72,14 @@ carry_way laws framed known s first under =
       seen_under framed way s first there,
     )
 
-fact_form : (laws : KnownLaws) (framed : Bool) (fact : Option CarryFact) (carry : Bool) (known way : Known) → IsCarry fact → IsKnown framed known
+fact_form : (laws : KnownLaws) (framed : Bool) (fact : Option CarryFact) (carry : Bool) (known way : Known)
+    → IsCarry fact → IsKnown framed known
     → fact_cut fact carry known ≡ Some way → IsKnown framed way
 fact_form laws framed None carry known way is form e = subst (IsKnown framed) (same_Some known way e) form
 fact_form laws framed (Some fact) carry known way is form e = place_way_form laws framed fact.compared (order_window carry fact.bound) known way is.0 (order_low carry fact.bound is.1) form e
 
-carry_form : (laws : KnownLaws) (framed : Bool) (carry : Bool) (known way : Known) → IsKnown framed known → carry_cut carry known ≡ Some way → IsKnown framed way
+carry_form : (laws : KnownLaws) (framed : Bool) (carry : Bool) (known way : Known) → IsKnown framed known
+    → carry_cut carry known ≡ Some way → IsKnown framed way
 carry_form laws framed carry known way form =
     cond_both (may_be (jumps.carry_of known) carry) (option_map (with_seen_carry carry) (fact_cut known.carry_fact carry known)) None (λ (cut : Option Known). cut ≡ Some way → IsKnown framed way)
     (λ may e. let (held, cut, same) = mapped (with_seen_carry carry) (fact_cut known.carry_fact carry known) way e in
@@ -88,7 +92,8 @@ zero_way : (laws : KnownLaws) (framed : Bool) (known : Known) (s : ChipState) (f
     → Goes framed (place_cut Accumulator (equality_window (s.a == 0) 0) known) s first
 zero_way laws framed known s first under = place_way laws framed Accumulator (equality_window (s.a == 0) 0) known s first tt (equality_inside s.a 0 under.holds.state.a (omega arith)) under
 
-pub condition_way : (laws : KnownLaws) (framed : Bool) (known : Known) (s : ChipState) (first : Option ChipState) (condition : Condition) → IsUnder framed known s first
+pub condition_way : (laws : KnownLaws) (framed : Bool) (known : Known) (s : ChipState) (first : Option ChipState) (condition : Condition)
+    → IsUnder framed known s first
     → (way : Known) × (condition_cut condition (holds condition s) known ≡ Some way) × IsUnder framed way s first
 unfolding condition_cut
 condition_way laws framed known s first Carry under = carry_way laws framed known s first under
@@ -99,7 +104,8 @@ condition_way laws framed known s first NotZero under =
     subst (λ equal. Goes framed (place_cut Accumulator (equality_window equal 0) known) s first) (sym (twice_not (s.a == 0))) (zero_way laws framed known s first under)
 condition_way laws framed known s first Always under = (known, refl, under)
 
-pub condition_way_form : (laws : KnownLaws) (framed : Bool) (known way : Known) (condition : Condition) (taken : Bool) → IsKnown framed known
+pub condition_way_form : (laws : KnownLaws) (framed : Bool) (known way : Known) (condition : Condition) (taken : Bool)
+    → IsKnown framed known
     → condition_cut condition taken known ≡ Some way → IsKnown framed way
 unfolding condition_cut
 condition_way_form laws framed known way Carry taken form e = carry_form laws framed taken known way form e
@@ -117,7 +123,8 @@ less_is x y = elim (cases_Bool (nat_le y x)) [
   | inr is ↦ ap not is ∙ sym (lt-ltb x y (leb-false y x is))
 ]
 
-less_bit : (laws : KnownLaws) (x y : ℕ) (first second : Form) → Has 256 first x → Has 256 second y → IsBit (is_less first second) (bit_of (nat_lt x y))
+less_bit : (laws : KnownLaws) (x y : ℕ) (first second : Form) → Has 256 first x → Has 256 second y
+    → IsBit (is_less first second) (bit_of (nat_lt x y))
 unfolding is_less
 less_bit laws x y first second has also =
     let reached = agreed 256 (λ a b none. nat_le b a) first second (single 0) in
@@ -137,7 +144,8 @@ operand_way laws framed (Several set) known s first x value is has small under =
     let (part, cut, normal, still) = part_has laws.sets x set (equality_window (x == value) value) is has inside in
     (known, ap (option_map (λ (form : Form). known)) cut, under)
 
-number_has : (laws : KnownLaws) (framed : Bool) (operand : Operand) (known : Known) (s : ChipState) (first : Option ChipState) (x : ℕ) → IsOperand operand
+number_has : (laws : KnownLaws) (framed : Bool) (operand : Operand) (known : Known) (s : ChipState) (first : Option ChipState) (x : ℕ)
+    → IsOperand operand
     → IsNumberOf operand s x → IsUnder framed known s first
     → Has 256 (numbers_of operand known) x
 number_has laws framed (One place) known s first x is number under = subst (Has 256 (set_at place known)) (sym number) (set_has laws framed place known s first is under)
@@ -147,7 +155,8 @@ fact_is : (operand : Operand) (value : ℕ) → IsOperand operand → value < 25
 fact_is (One place) value is small = (is, small)
 fact_is (Several set) value is small = tt
 
-fact_told : (operand : Operand) (value x : ℕ) (s : ChipState) → IsNumberOf operand s x → HoldsOfCarry (fact_of operand value) (with_carry (bit_of (nat_lt x value)) s)
+fact_told : (operand : Operand) (value x : ℕ) (s : ChipState) → IsNumberOf operand s x
+    → HoldsOfCarry (fact_of operand value) (with_carry (bit_of (nat_lt x value)) s)
 fact_told (One place) value x s number =
     told_of_place place value (bit_of (nat_lt x value)) s (flag_below (nat_lt x value)) (ap (λ v. bit_of (nat_lt v value)) number)
 fact_told (Several set) value x s has = tt
@@ -167,13 +176,15 @@ comparison_way laws framed known s first operand x value under is number small =
       written_under framed carry (fact_of operand value) less way s first (flag_below (nat_lt x value)) bit (fact_is operand value is small) (fact_told operand value x s number) there,
     )
 
-operand_form : (laws : KnownLaws) (framed : Bool) (operand : Operand) (window : Window) (known way : Known) → IsOperand operand → window.low < 256
+operand_form : (laws : KnownLaws) (framed : Bool) (operand : Operand) (window : Window) (known way : Known)
+    → IsOperand operand → window.low < 256
     → IsKnown framed known → operand_cut operand window known ≡ Some way → IsKnown framed way
 operand_form laws framed (One place) window known way is low form e = place_way_form laws framed place window known way is low form e
 operand_form laws framed (Several set) window known way is low form e =
     let (part, cut, same) = mapped (λ (part : Form). known) (cut_to window set) way e in subst (IsKnown framed) same form
 
-pub comparison_way_form : (laws : KnownLaws) (framed : Bool) (known way : Known) (operand : Operand) (value : ℕ) (taken : Bool) → IsKnown framed known
+pub comparison_way_form : (laws : KnownLaws) (framed : Bool) (known way : Known) (operand : Operand) (value : ℕ) (taken : Bool)
+    → IsKnown framed known
     → IsOperand operand → value < 256
     → comparison_cut operand value taken known ≡ Some way → IsKnown framed way
 unfolding comparison_cut
@@ -184,7 +195,8 @@ comparison_way_form laws framed known way operand value taken form is small e =
     subst (IsKnown framed) same
     (written_form framed carry (fact_of operand value) held (fact_is operand value is small) (operand_form laws framed operand window known held is (equality_low (not taken) value small) form cut))
 
-pub byte_way : (laws : KnownLaws) (framed : Bool) (known : Known) (s : ChipState) (first : Option ChipState) (set : Form) (x : ℕ) → IsUnder framed known s first → Has 256 set x
+pub byte_way : (laws : KnownLaws) (framed : Bool) (known : Known) (s : ChipState) (first : Option ChipState) (set : Form) (x : ℕ)
+    → IsUnder framed known s first → Has 256 set x
     → IsUnder framed (compared_with set known) (with_carry (bit_of (nat_lt s.a x)) s) first
 unfolding compared_with
 byte_way laws framed known s first set x under has =
@@ -207,7 +219,8 @@ lowered_way laws set x normal has =
     let (part, cut, part_normal_so, part_has_so) = part_has laws.sets v low (equality_window (v == 0) 0) (lowered_normal laws set normal) low_has inside in
     (part, ap (λ equal. cut_to (equality_window equal 0) low) (twice_not (v == 0)) ∙ cut, part_normal_so, part_has_so)
 
-pub lowered_form : (laws : KnownLaws) (set part : Form) (taken : Bool) → IsNormal 256 set → lowered_cut taken set ≡ Some part → IsNormal 256 part
+pub lowered_form : (laws : KnownLaws) (set part : Form) (taken : Bool) → IsNormal 256 set
+    → lowered_cut taken set ≡ Some part → IsNormal 256 part
 unfolding lowered_cut
 lowered_form laws set part taken normal e =
     part_normal laws.sets (sub 256 set (single 1)) part (equality_window (not taken) 0) (lowered_normal laws set normal) (equality_low (not taken) 0 (omega arith)) e

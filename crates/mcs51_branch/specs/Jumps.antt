@@ -29,11 +29,13 @@ carry_of known = slice_index_or known.psw.bits 5 Either
 
 -- a jump looked at CY
 unfoldable pub with_seen_carry : Bool → Known → Known
-with_seen_carry carry known = record known { psw = record { bits = slice_set known.psw.bits 5 (known_flag carry); entry = known.psw.entry } }
+with_seen_carry carry known =
+    record known { psw = record { bits = slice_set known.psw.bits 5 (known_flag carry); entry = known.psw.entry } }
 
 -- an instruction wrote CY: PSW isn't what it was when an interrupt came
 unfoldable pub with_carry_written : Tri → Option CarryFact → Known → Known
-with_carry_written carry fact known = record known { psw = record { bits = slice_set known.psw.bits 5 carry; entry = None }; carry_fact = fact }
+with_carry_written carry fact known =
+    record known { psw = record { bits = slice_set known.psw.bits 5 carry; entry = None }; carry_fact = fact }
 
 -- JC, JNC, JZ, JNZ AND SJMP
 

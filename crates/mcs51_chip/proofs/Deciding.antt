@@ -14,7 +14,8 @@ step_by : (image : List (Option ℕ)) (s : ChipState) (choices left : List ℕ) 
 unfolding step_of
 step_by image s choices left option e = ap (continued (taken image s)) e
 
-pub instruction_runs : (image : List (Option ℕ)) (s : ChipState) (choices left : List ℕ) (found : Result (Instr × ℕ) NoInstr) → interrupt_option s choices ≡ Some (0, left)
+pub instruction_runs : (image : List (Option ℕ)) (s : ChipState) (choices left : List ℕ) (found : Result (Instr × ℕ) NoInstr)
+    → interrupt_option s choices ≡ Some (0, left)
     → decoded image s.pc ≡ found → step_of image s choices ≡ run image s found left
 instruction_runs image s choices left found e is = step_by image s choices left 0 e ∙ ap (λ f. run image s f left) is
 
@@ -22,7 +23,8 @@ second_of : {A : Type 0} (b : Bool) (f g : Asking A) (choices : List ℕ) → b 
 second_of false f g choices e = refl
 second_of true f g choices e = absurd cc
 
-pub entry_comes : (image : List (Option ℕ)) (s : ChipState) (choices left : List ℕ) (option : ℕ) → interrupt_option s choices ≡ Some (option, left) → 0 < option
+pub entry_comes : (image : List (Option ℕ)) (s : ChipState) (choices left : List ℕ) (option : ℕ)
+    → interrupt_option s choices ≡ Some (option, left) → 0 < option
     → step_of image s choices ≡ Some (entered s (slice_index (coming s) (option - 1)), left)
 entry_comes image s choices left option e some =
     let other : (option == 0) ≡ false = grind (arith, nat_tests, some) in

@@ -204,11 +204,13 @@ changing_keeps : (s : ChipState) (before : List Access) (address : Address) (cha
     → ((x : ℕ) → x < 256 → change x < 256) → Gives Keeps (changing s before address change)
 changing_keeps s before address change is there h = updating_keeps s before address _ is there (λ x below. write_kept s address (change x) is (h x below))
 
-moving_keeps : (s : ChipState) (before : List Access) (from to : Address) → IsChipState s → IsAddress from → Gives Keeps (moving s before from to)
+moving_keeps : (s : ChipState) (before : List Access) (from to : Address) → IsChipState s → IsAddress from
+    → Gives Keeps (moving s before from to)
 unfolding moving
 moving_keeps s before from to is there = byte_leads s from _ is there (λ x below. write_kept s to x is below)
 
-writing_keeps : (s : ChipState) (before : List Access) (address : Address) (x : ℕ) → IsChipState s → x < 256 → Gives Keeps (writing s before address x)
+writing_keeps : (s : ChipState) (before : List Access) (address : Address) (x : ℕ) → IsChipState s → x < 256
+    → Gives Keeps (writing s before address x)
 writing_keeps s before address x is h = answer_gives Keeps _ (write_kept s address x is h)
 
 branched_kept : (s : ChipState) (taken : Bool) (rel : ℕ) → IsChipState s → IsChipState (branched taken rel s)
@@ -221,7 +223,8 @@ cleared_keeps : (s : ChipState) (address : Address) (bit rel x : ℕ) → IsChip
 cleared_keeps s address bit rel x is h = cond_both (bit_at x (bit % 8) == 1) _ _ Keeps
     (λ e. branched_kept _ true rel (write_kept s address _ is (with_bit_below x bit 0 h (omega arith)))) (λ e. branched_kept s false rel is)
 
-on_bit_keeps : (s : ChipState) (test : BitTest) (address : Address) (bit rel : ℕ) → IsChipState s → IsAddress address → Gives Keeps (jumping_on_bit s test address (bit % 8) rel)
+on_bit_keeps : (s : ChipState) (test : BitTest) (address : Address) (bit rel : ℕ) → IsChipState s → IsAddress address
+    → Gives Keeps (jumping_on_bit s test address (bit % 8) rel)
 unfolding jumping_on_bit
 on_bit_keeps s SetAndClear address bit rel is there = byte_leads s address _ is there (λ x h. cleared_keeps s address bit rel x is h)
 on_bit_keeps s Set address bit rel is there = reading_keeps s _ address _ is there (λ x h. branched_kept s _ rel is)
@@ -245,7 +248,8 @@ unfolding popping
 popping_keeps s direct is = then_gives (λ (option : ℕ). option < 2) Keeps _ _ (ask_if_gives (direct == 0x81) 2 (omega arith)) (λ option o.
     answer_gives Keeps _ (write_kept (popped s) (direct_address direct) _ (popped_kept s is) (omega arith)))
 
-byte_by : (image : List (Option ℕ)) (at : ℕ) → All IsByte image → (within : Bool) → ltb at (length image) ≡ within → IsByte (byte_at image at)
+byte_by : (image : List (Option ℕ)) (at : ℕ) → All IsByte image → (within : Bool) → ltb at (length image) ≡ within
+    → IsByte (byte_at image at)
 byte_by image at bytes true test = All-get_or IsByte image at None (ltb-true at (length image) test) bytes
 byte_by image at bytes false test = let past : byte_at image at ≡ None = get_or_past image at None (ltb-false at (length image) test) in rw past tt
 
@@ -285,7 +289,8 @@ digits_kept s address x is h = let a = is.a in
 
 -- ---- instructions
 
-effect_keeps : (image : List (Option ℕ)) (s : ChipState) (instr : Instr) → All IsByte image → AreFitting instr → IsChipState s → Gives Keeps (effect_of image s instr)
+effect_keeps : (image : List (Option ℕ)) (s : ChipState) (instr : Instr) → All IsByte image → AreFitting instr
+    → IsChipState s → Gives Keeps (effect_of image s instr)
 unfolding effect_of
 effect_keeps image s Nop bytes fits is = implied_keeps s is
 effect_keeps image s (AbsoluteJump target) bytes fits is = implied_keeps _ (set_pc s _ is (absolute_below s.pc target is.pc))
@@ -354,7 +359,8 @@ unfolding executed
 executed_keeps image s instr bytes row is = let next : IsChipState (going_to (following s.pc instr) s) = set_pc s (following s.pc instr) is (omega arith) in
     then_gives Keeps KeepsForm _ _ (effect_keeps image (going_to (following s.pc instr) s) instr bytes (operands_fit instr row) next) (λ effect h. answer_gives KeepsForm _ h)
 
-run_keeps : (image : List (Option ℕ)) (s : ChipState) (found : Result (Instr × ℕ) NoInstr) → ((instr : Instr) (len : ℕ) → found ≡ Ok (instr, len) → Row (bytes_of instr) instr)
+run_keeps : (image : List (Option ℕ)) (s : ChipState) (found : Result (Instr × ℕ) NoInstr)
+    → ((instr : Instr) (len : ℕ) → found ≡ Ok (instr, len) → Row (bytes_of instr) instr)
     → All IsByte image → IsChipState s → Gives KeepsForm (run image s found)
 run_keeps image s (Ok (instr, len)) rows bytes is = executed_keeps image s instr bytes (rows instr len refl) is
 run_keeps image s (Err none) rows bytes is = answer_gives KeepsForm _ tt
@@ -372,17 +378,21 @@ entered_keeps : (s : ChipState) (source : ℕ) → IsChipState s → source < 6 
 unfolding entered
 entered_keeps s source is h = serving_kept (is_high s source) (called (vector_of source) s) (called_kept s (vector_of source) is (omega (arith, h)))
 
-choose_keeps : (image : List (Option ℕ)) (s : ChipState) (option : ℕ) (none : Bool) → (option == 0) ≡ none → AreOfTable image s.pc → All IsByte image → IsChipState s
-    → option < 1 + length (coming s) → Gives KeepsForm (cond none (run image s (decoded image s.pc)) (answer (entered s (slice_index (coming s) (option - 1)))))
+choose_keeps : (image : List (Option ℕ)) (s : ChipState) (option : ℕ) (none : Bool) → (option == 0) ≡ none
+    → AreOfTable image s.pc → All IsByte image → IsChipState s
+    → option < 1 + length (coming s)
+    → Gives KeepsForm (cond none (run image s (decoded image s.pc)) (answer (entered s (slice_index (coming s) (option - 1)))))
 choose_keeps image s option true e rows bytes is few = run_keeps image s (decoded image s.pc) rows bytes is
 choose_keeps image s option false e rows bytes is few = answer_gives KeepsForm _ (entered_keeps s _ is
     (All-get_or (λ source. source < 6) (coming s) (option - 1) _ (grind (arith, nat_tests, e, few)) (all_six s)))
 
-taken_keeps : (image : List (Option ℕ)) (s : ChipState) (option : ℕ) → AreOfTable image s.pc → All IsByte image → IsChipState s → option < 1 + length (coming s)
+taken_keeps : (image : List (Option ℕ)) (s : ChipState) (option : ℕ) → AreOfTable image s.pc → All IsByte image
+    → IsChipState s → option < 1 + length (coming s)
     → Gives KeepsForm (taken image s option)
 taken_keeps image s option rows bytes is few = choose_keeps image s option (option == 0) refl rows bytes is few
 
-pub step_keeps : (image : List (Option ℕ)) (s t : ChipState) (choices : List ℕ) (items : List Single) → All IsByte image → AreOfTable image s.pc → IsChipState s
+pub step_keeps : (image : List (Option ℕ)) (s t : ChipState) (choices : List ℕ) (items : List Single) → All IsByte image
+    → AreOfTable image s.pc → IsChipState s
     → step_of image s choices ≡ Some (Next items t, []) → IsChipState t
 unfolding step_of
 step_keeps image s t choices items bytes rows is e = (then_gives (λ (option : ℕ). option < 1 + length (coming s)) KeepsForm _ _

@@ -36,7 +36,8 @@ answers : {A : Type 0} (most : ℕ) (a : A) → AsksAtMost most (answer a)
 answers most a = more_asks 0 most _ (omega arith) (answer_asks a)
 
 -- one question, and then an answer
-one : {A : Type 0} (options : ℕ) (next : ℕ → A) → 0 < options → options ≤ 65536 → AsksAtMost 1 (and_then (ask options) (λ (a : ℕ). answer (next a)))
+one : {A : Type 0} (options : ℕ) (next : ℕ → A) → 0 < options → options ≤ 65536
+    → AsksAtMost 1 (and_then (ask options) (λ (a : ℕ). answer (next a)))
 one options next some few = then_asks 1 0 _ _ (ask_asks options some few) (λ (a : ℕ). answer_asks _)
 
 sfr_asks : (s : ChipState) (sfr : Sfr) → AsksAtMost 1 (read_sfr s sfr)
@@ -63,14 +64,17 @@ code_asks None = ask_asks 256 (omega arith) (omega arith)
 -- ---- formats
 
 -- a byte is read, and then nothing is asked
-after_byte : {A : Type 0} (s : ChipState) (address : Address) (leads : ℕ → A) → AsksAtMost 2 (and_then (read s address) (λ (x : ℕ). answer (leads x)))
+after_byte : {A : Type 0} (s : ChipState) (address : Address) (leads : ℕ → A)
+    → AsksAtMost 2 (and_then (read s address) (λ (x : ℕ). answer (leads x)))
 after_byte s address leads = more_asks 1 2 _ (omega arith) (then_asks 1 0 _ _ (read_asks s address) (λ (x : ℕ). answer_asks _))
 
-reading_asks : (s : ChipState) (before : List Access) (address : Address) (leads : ℕ → ChipState) → AsksAtMost 2 (reading s before address leads)
+reading_asks : (s : ChipState) (before : List Access) (address : Address) (leads : ℕ → ChipState)
+    → AsksAtMost 2 (reading s before address leads)
 unfolding reading
 reading_asks s before address leads = after_byte s address _
 
-updating_asks : (s : ChipState) (before : List Access) (address : Address) (leads : ℕ → ChipState) → AsksAtMost 2 (updating s before address leads)
+updating_asks : (s : ChipState) (before : List Access) (address : Address) (leads : ℕ → ChipState)
+    → AsksAtMost 2 (updating s before address leads)
 unfolding updating
 updating_asks s before address leads = after_byte s address _
 

@@ -79,10 +79,12 @@ at_leads s (Indirect i) = made_of 256 (λ high. pointed_by s i + 256 * high) (om
 -- ---- formats
 
 -- what comes of each number that is asked for
-of_each : (May : ℕ → Type 0) (leads : ℕ → Effect) (asking : Asking ℕ) → Gives May asking → Gives (IsOfOne May leads) (and_then asking (λ x. answer (leads x)))
+of_each : (May : ℕ → Type 0) (leads : ℕ → Effect) (asking : Asking ℕ) → Gives May asking
+    → Gives (IsOfOne May leads) (and_then asking (λ x. answer (leads x)))
 of_each May leads asking gives = then_gives May (IsOfOne May leads) asking _ gives (λ x may. answer_gives (IsOfOne May leads) (leads x) (x, may, refl))
 
-of_byte : (s : ChipState) (address : Address) (leads : ℕ → Effect) → Gives (IsOfOne (MayRead s address) leads) (and_then (read s address) (λ x. answer (leads x)))
+of_byte : (s : ChipState) (address : Address) (leads : ℕ → Effect)
+    → Gives (IsOfOne (MayRead s address) leads) (and_then (read s address) (λ x. answer (leads x)))
 of_byte s address leads = of_each (MayRead s address) leads (read s address) (read_leads s address)
 
 pub reading_leads : (s : ChipState) (before : List Access) (address : Address) (leads : ℕ → ChipState)
@@ -146,7 +148,8 @@ pub clear_leads : (s : ChipState) (address : Address) (place rel : ℕ)
 unfolding jumping_on_bit
 clear_leads s address place rel = reading_leads s [] address (λ x. branched (bit_at x place == 0) rel s)
 
-zero_leads : (s : ChipState) → Gives (MayDivide true s) (and_then (ask 256) (λ a. and_then (ask 256) (λ b. implied (divided_by_zero a b s))))
+zero_leads : (s : ChipState)
+    → Gives (MayDivide true s) (and_then (ask 256) (λ a. and_then (ask 256) (λ b. implied (divided_by_zero a b s))))
 zero_leads s = then_gives (λ (a : ℕ). a < 256) (MayDivide true s) _ _ (ask_gives 256 (omega arith)) (λ a h.
     then_gives (λ (b : ℕ). b < 256) (MayDivide true s) _ _ (ask_gives 256 (omega arith)) (λ b g.
     answer_gives (MayDivide true s) ([], divided_by_zero a b s) (a, b, h, g, refl)))
@@ -162,19 +165,23 @@ dividing_leads s = divide_by (s.b == 0) s
 
 -- ---- steps
 
-effect_leads : (image : List (Option ℕ)) (s : ChipState) (instr : Instr) → Gives (MayDo image s instr) (effect_of image (going_to (following s.pc instr) s) instr)
+effect_leads : (image : List (Option ℕ)) (s : ChipState) (instr : Instr)
+    → Gives (MayDo image s instr) (effect_of image (going_to (following s.pc instr) s) instr)
 effect_leads image s instr = record { each = λ choices rest effect e. (choices, rest, e) }
 
-executed_leads : (image : List (Option ℕ)) (s : ChipState) (instr : Instr) (len : ℕ) → Decodes image s.pc (Ok (instr, len)) → Gives (MayLead image s) (executed image s instr)
+executed_leads : (image : List (Option ℕ)) (s : ChipState) (instr : Instr) (len : ℕ)
+    → Decodes image s.pc (Ok (instr, len)) → Gives (MayLead image s) (executed image s instr)
 unfolding executed
 executed_leads image s instr len stands = then_gives (MayDo image s instr) (MayLead image s) _ _ (effect_leads image s instr) (λ effect does.
     answer_gives (MayLead image s) (stepped s (Ran s.pc (bytes_of instr) ∷ []) effect) (Runs instr len effect stands does refl))
 
-run_leads : (image : List (Option ℕ)) (s : ChipState) (found : Result (Instr × ℕ) NoInstr) → Decodes image s.pc found → Gives (MayLead image s) (run image s found)
+run_leads : (image : List (Option ℕ)) (s : ChipState) (found : Result (Instr × ℕ) NoInstr) → Decodes image s.pc found
+    → Gives (MayLead image s) (run image s found)
 run_leads image s (Ok (instr, len)) stands = executed_leads image s instr len stands
 run_leads image s (Err none) lacks = answer_gives (MayLead image s) (Wild none) (NoneStands none lacks refl)
 
-one_of : (sources : List ℕ) (option : ℕ) → option < 1 + length sources → (option == 0) ≡ false → Contains sources (slice_index sources (option - 1))
+one_of : (sources : List ℕ) (option : ℕ) → option < 1 + length sources → (option == 0) ≡ false
+    → Contains sources (slice_index sources (option - 1))
 one_of sources option below some = Contains-get_or sources (option - 1) 0 (grind (arith, nat_tests, below, some))
 
 taken_by : (image : List (Option ℕ)) (s : ChipState) (option : ℕ) (none : Bool) → Decodes image s.pc (decoded image s.pc)
@@ -184,7 +191,8 @@ taken_by image s option true is comes = run_leads image s (decoded image s.pc) i
 taken_by image s option false is comes =
     answer_gives (MayLead image s) _ (Enters (slice_index (coming s) (option - 1)) (comes refl) refl)
 
-pub step_leads : (image : List (Option ℕ)) (s : ChipState) → Decodes image s.pc (decoded image s.pc) → Gives (MayLead image s) (step_of image s)
+pub step_leads : (image : List (Option ℕ)) (s : ChipState) → Decodes image s.pc (decoded image s.pc)
+    → Gives (MayLead image s) (step_of image s)
 unfolding step_of
 step_leads image s is = then_gives (λ (option : ℕ). option < 1 + length (coming s)) (MayLead image s) _ _
     (ask_if_gives (nat_lt 0 (length (coming s))) (1 + length (coming s)) (omega arith)) (λ option few.

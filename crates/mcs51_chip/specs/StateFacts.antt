@@ -29,7 +29,8 @@ set_psw s x is h held = grind (arith, is, h, held)
 pub carry_kept : (s : ChipState) (c : ℕ) → IsChipState s → c < 2 → IsChipState (with_carry c s)
 carry_kept s c is h = set_psw s _ is (omega (arith, h)) (omega (arith, is.psw_held))
 
-pub flags_kept : (s : ChipState) (c half overflow : ℕ) → IsChipState s → c < 2 → half < 2 → overflow < 2 → IsChipState (with_flags c half overflow s)
+pub flags_kept : (s : ChipState) (c half overflow : ℕ) → IsChipState s → c < 2 → half < 2 → overflow < 2
+    → IsChipState (with_flags c half overflow s)
 flags_kept s c half overflow is h g o = set_psw s _ is (omega (arith, h, g, o)) (omega arith)
 
 -- RESULTS

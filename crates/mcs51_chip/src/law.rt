@@ -38,7 +38,8 @@ pub fn steps_keep_form()
 
 /// Three choices are enough for any step, and each step is taken by choices of 16 bits.
 pub fn steps_are_taken()
-    ensures some { (image : List (Option ℕ)) (s : AState) (choices : List ℕ) → 3 ≤ length choices → IsSome (step_of image s choices) }
+    ensures some { (image : List (Option ℕ)) (s : AState) (choices : List ℕ) → 3 ≤ length choices
+        → IsSome (step_of image s choices) }
     ensures small { (image : List (Option ℕ)) (s : AState) (choices : List ℕ) (outcome : Outcome) → Step image s choices outcome →
         (few : List ℕ) × All (λ choice. choice < 65536) few × Step image s few outcome }
 {}

@@ -30,7 +30,8 @@ only_one : (n v : ℕ) → Has 256 (single n) v → v ≡ n
 only_one n v h = elim (Contains-push_cases [] n v h) [ inl none ↦ absurd (omega (arith, none.1)) | inr same ↦ sym same ]
 
 -- a place that holds all bits of a byte
-whole_byte : (f : ChipState) (place v : ℕ) (entry : Entry) → entry.place ≡ place → entry.and ≡ 255 → entry.or ≡ 0 → (suspended_of f).held place ≡ 65535
+whole_byte : (f : ChipState) (place v : ℕ) (entry : Entry) → entry.place ≡ place → entry.and ≡ 255 → entry.or ≡ 0
+    → (suspended_of f).held place ≡ 65535
     → (suspended_of f).number place < 256
     → IsFromEntry (Some (suspended_of f)) (Some entry) v → v ≡ (suspended_of f).number place
 whole_byte f place v entry at masked whole held small (word, (below, reads), is) =
@@ -43,7 +44,8 @@ whole_byte f place v entry at masked whole held small (word, (below, reads), is)
     let made : v ≡ bit_or (bit_and word 255) 0 = rw (masked, whole) at is in
     made ∙ or_zero_r (bit_and word 255) ∙ low ∙ omega (arith, same, small)
 
-counter_byte : (f : ChipState) (place v : ℕ) (entry : Option Entry) → is_counter place entry ≡ true → (suspended_of f).held place ≡ 65535 → (suspended_of f).number place < 256
+counter_byte : (f : ChipState) (place v : ℕ) (entry : Option Entry) → is_counter place entry ≡ true
+    → (suspended_of f).held place ≡ 65535 → (suspended_of f).number place < 256
     → IsFromEntry (Some (suspended_of f)) entry v → v ≡ (suspended_of f).number place
 counter_byte f place v None is held small from = absurd (cc)
 counter_byte f place v (Some entry) is held small from =
@@ -51,7 +53,8 @@ counter_byte f place v (Some entry) is held small from =
     let first_two = and_parts (entry.place == place) (entry.and == 255) both.0 in
     whole_byte f place v entry (eqb-true entry.place place first_two.0) (eqb-true entry.and 255 first_two.1) (eqb-true entry.or 0 both.1) held small from
 
-pub back_so : (laws : InstructionLaws) (framed : Bool) (a : Known) (s : ChipState) (first : Option ChipState) (frame : Frame) → IsUnder framed a s first → StandsIn frame first
+pub back_so : (laws : InstructionLaws) (framed : Bool) (a : Known) (s : ChipState) (first : Option ChipState) (frame : Frame)
+    → IsUnder framed a s first → StandsIn frame first
     → goes_back framed frame a ≡ true → GoesOn frame (level_ended (returned s)) first
 unfolding goes_back
 back_so laws framed a s first Base under stands goes = absurd (cc)

@@ -19,7 +19,8 @@ pub low_behind : (low up : Bool) → Bool
 low_behind low true = low
 low_behind low false = false
 
-left_serves : (levels : Levels) (low up : Bool) → may_serve levels low up ≡ true → may_serve (level_left levels) (low_behind low up) false ≡ true
+left_serves : (levels : Levels) (low up : Bool) → may_serve levels low up ≡ true
+    → may_serve (level_left levels) (low_behind low up) false ≡ true
 unfolding low_behind
 left_serves levels false false serves = or_left (levels.none || levels.low) levels.high (or_left levels.none levels.low serves)
 left_serves levels true false serves = or_left (levels.none || levels.low) levels.high (or_right levels.none levels.low serves)
@@ -37,10 +38,12 @@ with_service low up s = record s { serves_low = low; serves_high = up }
 abbrev with_levels : Levels → Known → Known
 with_levels levels known = record known { levels = levels }
 
-levels_form : (framed : Bool) (known : Known) (levels : Levels) → AreLevels levels → IsKnown framed known → IsKnown framed (with_levels levels known)
+levels_form : (framed : Bool) (known : Known) (levels : Levels) → AreLevels levels → IsKnown framed known
+    → IsKnown framed (with_levels levels known)
 levels_form framed known levels are form = assumption (form, are)
 
-serves_under : (framed : Bool) (known : Known) (levels : Levels) (s : ChipState) (first : Option ChipState) (low up : Bool) → may_serve levels low up ≡ true
+serves_under : (framed : Bool) (known : Known) (levels : Levels) (s : ChipState) (first : Option ChipState) (low up : Bool)
+    → may_serve levels low up ≡ true
     → IsUnder framed known s first → IsUnder framed (with_levels levels known) (with_service low up s) first
 serves_under framed known levels s first low up serves under =
     let form = levels_form framed known levels (low, up, serves) under.form in

@@ -24,7 +24,8 @@ returned_so laws framed a s first under =
     let low : top_of (popped s) < 256 = byte_small framed a s first ((s.sp + 255) % 256) under in
     laws.stores.writes.counter framed first (popped_address s) (omega (arith, high, low)) (returned_known a) (popped (popped s)) two
 
-pub interrupt_so : (laws : InstructionLaws) (framed : Bool) (a : Known) (s : ChipState) (first : Option ChipState) → IsUnder framed a s first
+pub interrupt_so : (laws : InstructionLaws) (framed : Bool) (a : Known) (s : ChipState) (first : Option ChipState)
+    → IsUnder framed a s first
     → IsUnder framed (interrupt_returned a) (level_ended (returned s)) first
 interrupt_so laws framed a s first under = ended_under framed (returned_known a) (returned s) first (returned_so laws framed a s first under)
 

@@ -20,7 +20,8 @@ use Rattle.mcs51_control.specs.Returning.{below_top, call_accesses, return_acces
 use Rattle.mcs51_control.proofs.Tops.{below_form, below_stands}
 
 -- two accesses of one kind, each shown by its own item
-two_shown : (laws : InstructionLaws) (pc : ℕ) (write : Bool) (one other : Addresses) (at next : Address) → MayStandAt one at → AreAddresses one
+two_shown : (laws : InstructionLaws) (pc : ℕ) (write : Bool) (one other : Addresses) (at next : Address)
+    → MayStandAt one at → AreAddresses one
     → MayStandAt other next → AreAddresses other
     → AreShown (access_of pc write one ∷ access_of pc write other ∷ []) pc (Internal write at ∷ Internal write next ∷ [])
 two_shown laws pc write one other at next stands form stands_too form_too access there =
@@ -33,13 +34,15 @@ two_shown laws pc write one other at next stands form stands_too form_too access
           (shows.0, Contains-append_right (first_item ∷ []) (second_item ∷ []) shows.0 shows.1, shows.2)
     ]
 
-pub return_shown : (laws : InstructionLaws) (framed : Bool) (pc : ℕ) (a : Known) (s : ChipState) (first : Option ChipState) → IsUnder framed a s first
+pub return_shown : (laws : InstructionLaws) (framed : Bool) (pc : ℕ) (a : Known) (s : ChipState) (first : Option ChipState)
+    → IsUnder framed a s first
     → AreShown (return_accesses pc a) pc (pop_reads s)
 return_shown laws framed pc a s first under =
     two_shown laws pc false (stack_top a) (below_top a) (AtRam s.sp) (AtRam ((s.sp + 255) % 256)) (laws.stores.stack.top framed first a s under) (laws.stores.stack.top_form framed first a s under)
     (below_stands laws framed a s first under) (below_form laws framed a under.form)
 
-pub call_shown : (laws : InstructionLaws) (framed : Bool) (pc : ℕ) (a : Known) (s : ChipState) (first : Option ChipState) → IsUnder framed a s first
+pub call_shown : (laws : InstructionLaws) (framed : Bool) (pc : ℕ) (a : Known) (s : ChipState) (first : Option ChipState)
+    → IsUnder framed a s first
     → AreShown (call_accesses pc a) pc (push_writes s)
 call_shown laws framed pc a s first under =
     let low = raised a.sp in

@@ -16,14 +16,16 @@ use Rattle.mcs51_state.specs.ValueFacts.{lowered_normal}
 use Rattle.mcs51_results.specs.InstructionLaws.{InstructionLaws}
 use Rattle.mcs51_control.specs.Returning.{below_top, high_byte, low_byte}
 
-pub popped_under : (laws : InstructionLaws) (framed : Bool) (a : Known) (s : ChipState) (first : Option ChipState) → IsUnder framed a s first
+pub popped_under : (laws : InstructionLaws) (framed : Bool) (a : Known) (s : ChipState) (first : Option ChipState)
+    → IsUnder framed a s first
     → IsUnder framed (byte_popped a) (popped s) first
 popped_under laws framed a s first under = laws.stores.stack.pop framed first a s under
 
 pub below_form : (laws : InstructionLaws) (framed : Bool) (a : Known) → IsKnown framed a → AreAddresses (below_top a)
 below_form laws framed a form = lowered_normal laws.known a.sp form.sp
 
-pub below_stands : (laws : InstructionLaws) (framed : Bool) (a : Known) (s : ChipState) (first : Option ChipState) → IsUnder framed a s first
+pub below_stands : (laws : InstructionLaws) (framed : Bool) (a : Known) (s : ChipState) (first : Option ChipState)
+    → IsUnder framed a s first
     → MayStandAt (below_top a) (AtRam ((s.sp + 255) % 256))
 below_stands laws framed a s first under = laws.stores.stack.top framed first (byte_popped a) (popped s) (popped_under laws framed a s first under)
 
@@ -38,5 +40,6 @@ pub low_holds : (laws : InstructionLaws) (framed : Bool) (a : Known) (s : ChipSt
 low_holds laws framed a s first under =
     laws.operands.reads.byte framed a s first under (below_top a) (AtRam ((s.sp + 255) % 256)) (top_of (popped s)) (below_stands laws framed a s first under) (below_form laws framed a under.form) refl
 
-pub byte_small : (framed : Bool) (a : Known) (s : ChipState) (first : Option ChipState) (at : ℕ) → IsUnder framed a s first → slice_index s.ram at < 256
+pub byte_small : (framed : Bool) (a : Known) (s : ChipState) (first : Option ChipState) (at : ℕ)
+    → IsUnder framed a s first → slice_index s.ram at < 256
 byte_small framed a s first at under = under.holds.parts.cells.0 at

@@ -35,7 +35,8 @@ lands framed first items pc targets behind accesses t shown has under =
 
 -- JUMPS
 
-jumps : (laws : InstructionLaws) (framed : Bool) (a : Known) (s : ChipState) (first : Option ChipState) (pc target : ℕ) (targets : Form) → IsUnder framed a s first
+jumps : (laws : InstructionLaws) (framed : Bool) (a : Known) (s : ChipState) (first : Option ChipState) (pc target : ℕ) (targets : Form)
+    → IsUnder framed a s first
     → target < 65536 → Has 65536 targets target
     → Gives (LandsSo framed first [] pc targets a) (answer ([], going_to target s))
 jumps laws framed a s first pc target targets under small has =
@@ -56,7 +57,8 @@ unfolding effect_of
 long_jump_does laws framed a s first image pc target under small =
     jumps laws framed a s first pc target (single target) under small (laws.known.sets.single 65536 target small).1
 
-pub indirect_jump_does : (laws : InstructionLaws) (framed : Bool) (a : Known) (s : ChipState) (first : Option ChipState) (image : List (Option ℕ)) (pc : ℕ) → IsUnder framed a s first
+pub indirect_jump_does : (laws : InstructionLaws) (framed : Bool) (a : Known) (s : ChipState) (first : Option ChipState) (image : List (Option ℕ)) (pc : ℕ)
+    → IsUnder framed a s first
     → Gives (LandsSo framed first [] pc (jump_targets a) a) (effect_of image s JumpIndirect)
 unfolding effect_of
 indirect_jump_does laws framed a s first image pc under =
@@ -64,7 +66,8 @@ indirect_jump_does laws framed a s first image pc under =
 
 -- CALLS
 
-calls : (laws : InstructionLaws) (framed : Bool) (a : Known) (s : ChipState) (first : Option ChipState) (pc target : ℕ) → IsUnder framed a s first → target < 65536
+calls : (laws : InstructionLaws) (framed : Bool) (a : Known) (s : ChipState) (first : Option ChipState) (pc target : ℕ)
+    → IsUnder framed a s first → target < 65536
     → Gives (LandsSo framed first (call_accesses pc a) pc (single target) (address_pushed framed s.pc a)) (answer (push_writes s, called target s))
 calls laws framed a s first pc target under small =
     let pushed_under = laws.stores.stack.push_address framed first s.pc under.holds.state.pc a s under in
@@ -85,14 +88,16 @@ long_call_does laws framed a s first image pc target under small = calls laws fr
 
 -- RETURNS
 
-pub return_does : (laws : InstructionLaws) (framed : Bool) (a : Known) (s : ChipState) (first : Option ChipState) (image : List (Option ℕ)) (pc : ℕ) → IsUnder framed a s first
+pub return_does : (laws : InstructionLaws) (framed : Bool) (a : Known) (s : ChipState) (first : Option ChipState) (image : List (Option ℕ)) (pc : ℕ)
+    → IsUnder framed a s first
     → Gives (LandsSo framed first (return_accesses pc a) pc (return_targets framed a) (returned_known a)) (effect_of image s Return)
 unfolding effect_of
 return_does laws framed a s first image pc under =
     lands framed first (return_accesses pc a) pc (return_targets framed a) (returned_known a) (pop_reads s) (returned s) (return_shown laws framed pc a s first under) (target_so laws framed a s first under)
     (returned_so laws framed a s first under)
 
-pub interrupt_return_does : (laws : InstructionLaws) (framed : Bool) (a : Known) (s : ChipState) (first : Option ChipState) (image : List (Option ℕ)) (pc : ℕ) → IsUnder framed a s first
+pub interrupt_return_does : (laws : InstructionLaws) (framed : Bool) (a : Known) (s : ChipState) (first : Option ChipState) (image : List (Option ℕ)) (pc : ℕ)
+    → IsUnder framed a s first
     → Gives (LandsSo framed first (return_accesses pc a) pc (return_targets framed a) (interrupt_returned a)) (effect_of image s ReturnFromInterrupt)
 unfolding effect_of
 interrupt_return_does laws framed a s first image pc under =

@@ -39,11 +39,13 @@ needed_gap : (image : List (Option ℕ)) (pc i : ℕ) (needed : Bool) (refusal :
 needed_gap image pc i true refusal e = let g = gap_is ((pc + i) % 65536) (upward image pc i) refusal e in (refl, g.0, g.1)
 needed_gap image pc i false refusal e = absurd (cc)
 
-lacking : (image : List (Option ℕ)) (pc at : ℕ) (refusal : NoInstr) → refusal ≡ OffImage at → Lacks image pc at → Decodes image pc (Err refusal)
+lacking : (image : List (Option ℕ)) (pc at : ℕ) (refusal : NoInstr) → refusal ≡ OffImage at → Lacks image pc at
+    → Decodes image pc (Err refusal)
 lacking image pc at refusal e h = rw e h
 
 -- the opcode is missing
-pub no_opcode : (image : List (Option ℕ)) (pc : ℕ) (refusal : NoInstr) → byte_upward image pc 0 ≡ Err refusal → IsAnswer image pc (Err refusal)
+pub no_opcode : (image : List (Option ℕ)) (pc : ℕ) (refusal : NoInstr) → byte_upward image pc 0 ≡ Err refusal
+    → IsAnswer image pc (Err refusal)
 unfolding decoded
 no_opcode image pc refusal e =
     let g = gap_is ((pc + 0) % 65536) (upward image pc 0) refusal e in
@@ -142,7 +144,8 @@ read_operand : (image : List (Option ℕ)) (pc i : ℕ) (needed : Bool) → leng
 read_operand image pc i true size bytes = read image pc i size bytes
 read_operand image pc i false size bytes = inl (0, omega arith, refl)
 
-answered : (image : List (Option ℕ)) (pc : ℕ) (answer : Result (Instr × ℕ) NoInstr) → IsAnswer image pc answer → Decodes image pc (decoded image pc)
+answered : (image : List (Option ℕ)) (pc : ℕ) (answer : Result (Instr × ℕ) NoInstr) → IsAnswer image pc answer
+    → Decodes image pc (decoded image pc)
 answered image pc answer h = rw h.1 h.0
 
 answer_allowed : (image : List (Option ℕ)) (pc opcode : ℕ) → length image ≡ 65536 → All IsByte image → opcode < 256 →

@@ -19,7 +19,8 @@ pub record IsMade (opcode x y : ℕ) (row plain : ℕ × Instr) : Type 0 where
   pub same : row.0 ≡ plain.0
 
 -- a row of one to three bytes
-made : {opcode x y : ℕ} {row plain : ℕ × Instr} → bytes_of row.1 ≡ take row.0 (opcode ∷ x ∷ y ∷ []) → (nat_lt 0 row.0 && nat_lt row.0 4) ≡ true
+made : {opcode x y : ℕ} {row plain : ℕ × Instr} → bytes_of row.1 ≡ take row.0 (opcode ∷ x ∷ y ∷ [])
+    → (nat_lt 0 row.0 && nat_lt row.0 4) ≡ true
     → row.0 ≡ plain.0 → IsMade opcode x y row plain
 made {row = row} bytes length same =
     let (least, most) = and_parts (nat_lt 0 row.0) (nat_lt row.0 4) length in

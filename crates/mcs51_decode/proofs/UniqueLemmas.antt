@@ -86,7 +86,8 @@ shorter image pc (x ∷ xs) (y ∷ ys) i r short a b =
 stands_whole : (image : List (Option ℕ)) (pc m n : ℕ) (i : Instr) → Stands image pc i m → Lacks image pc n → ⊥
 stands_whole image pc m n i a b = gap_at image pc (length b.0) a.0 a.3 (shorter image pc a.0 b.0 i a.1 b.2 a.3 b.1) b.3
 
-allowed_row : (image : List (Option ℕ)) (pc : ℕ) (xs : List ℕ) (i : Instr) → Row xs i → AreThere (upward image pc) 0 xs → HasExcluded image pc → ⊥
+allowed_row : (image : List (Option ℕ)) (pc : ℕ) (xs : List ℕ) (i : Instr) → Row xs i → AreThere (upward image pc) 0 xs
+    → HasExcluded image pc → ⊥
 allowed_row image pc [] i r a x = absurd r
 allowed_row image pc (opcode ∷ operands) i r a x =
     let e : opcode ≡ 0xA5 = cc (a.0, x) in

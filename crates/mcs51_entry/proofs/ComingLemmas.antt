@@ -37,7 +37,8 @@ allows_bit One true is = refl
 allows_bit One false is = absurd (omega (arith, is))
 allows_bit Either flag is = refl
 
-enable_may : (laws : InstructionLaws) (framed : Bool) (a : Known) (s : ChipState) (first : Option ChipState) (place : ℕ) → IsUnder framed a s first → place < 8 → bit_at s.ie place ≡ 1 → may_enable a place ≡ true
+enable_may : (laws : InstructionLaws) (framed : Bool) (a : Known) (s : ChipState) (first : Option ChipState) (place : ℕ)
+    → IsUnder framed a s first → place < 8 → bit_at s.ie place ≡ 1 → may_enable a place ≡ true
 enable_may laws framed a s first place under low e =
     allows_bit (read_bit a (InSfr 0xA8) place) true
     (subst (IsBit (read_bit a (InSfr 0xA8) place)) e
@@ -51,7 +52,8 @@ bit_is (suc (suc n)) small = absurd (omega (arith, small))
 one_bit : (v place : ℕ) → bit_at v place ≡ bit_of (bit_at v place == 1)
 one_bit v place = bit_is (bit_at v place) (mod-lt (v / 2 ^ place) {m = 2} (omega arith))
 
-have_may : (laws : InstructionLaws) (framed : Bool) (a : Known) (s : ChipState) (first : Option ChipState) (source : ℕ) → IsUnder framed a s first → source < 6 → may_have a source (is_high s source) ≡ true
+have_may : (laws : InstructionLaws) (framed : Bool) (a : Known) (s : ChipState) (first : Option ChipState) (source : ℕ)
+    → IsUnder framed a s first → source < 6 → may_have a source (is_high s source) ≡ true
 have_may laws framed a s first source under low =
     allows_bit (read_bit a (InSfr 0xB8) source) (is_high s source)
     (subst (IsBit (read_bit a (InSfr 0xB8) source)) (one_bit s.ip source)
@@ -105,7 +107,8 @@ comes_at (Values sps) source level s has = record {
 comes_at (Run p) source level s has = let one : Coming = record { source = source; level = level; known_sp = None; sp = Run p } in
     record { coming_so = one; source_is = refl; level_is = refl; listed = in_first one []; at = has; came = tt }
 
-in_levels : (a : Known) (source : ℕ) (high low : Bool) (coming_so : Coming) → Contains (level_comings a source (level_by high low)) coming_so
+in_levels : (a : Known) (source : ℕ) (high low : Bool) (coming_so : Coming)
+    → Contains (level_comings a source (level_by high low)) coming_so
     → Contains (level_comings a source 1 ++ (level_comings a source 2 ++ level_comings a source 3)) coming_so
 in_levels a source false low coming_so h = Contains-append_left (level_comings a source 1) (level_comings a source 2 ++ level_comings a source 3) coming_so h
 in_levels a source true false coming_so h =
@@ -115,8 +118,10 @@ in_levels a source true true coming_so h =
     Contains-append_right (level_comings a source 1) (level_comings a source 2 ++ level_comings a source 3) coming_so
     (Contains-append_right (level_comings a source 2) (level_comings a source 3) coming_so h)
 
-listed_so : (a : Known) (source : ℕ) (coming_so : Coming) → may_enable a 7 ≡ true → may_enable a source ≡ true → Contains (range_with_len 0 6) source
-    → Contains (level_comings a source 1 ++ (level_comings a source 2 ++ level_comings a source 3)) coming_so → Contains (comings_of a) coming_so
+listed_so : (a : Known) (source : ℕ) (coming_so : Coming) → may_enable a 7 ≡ true → may_enable a source ≡ true
+    → Contains (range_with_len 0 6) source
+    → Contains (level_comings a source 1 ++ (level_comings a source 2 ++ level_comings a source 3)) coming_so
+    → Contains (comings_of a) coming_so
 unfolding comings_of
 listed_so a source coming_so all own there h =
     let levels = level_comings a source 1 ++ (level_comings a source 2 ++ level_comings a source 3) in
@@ -124,7 +129,8 @@ listed_so a source coming_so all own there h =
     subst (λ list. Contains list coming_so) (sym (cond-true (may_enable a 7) (flat_map (source_comings a) (range_with_len 0 6)) [] all))
     (in_flat_map (source_comings a) (range_with_len 0 6) source coming_so there of_source)
 
-pub comes : (laws : InstructionLaws) (framed : Bool) (a : Known) (s : ChipState) (first : Option ChipState) (source : ℕ) → IsUnder framed a s first → Contains (coming s) source
+pub comes : (laws : InstructionLaws) (framed : Bool) (a : Known) (s : ChipState) (first : Option ChipState) (source : ℕ)
+    → IsUnder framed a s first → Contains (coming s) source
     → (coming_so : Coming) × (coming_so.source ≡ source) × ComesSo a s coming_so
 comes laws framed a s first source under h =
     let is = may_come_so s source h in
@@ -154,7 +160,8 @@ pub record IsListed (coming_so : Coming) : Type 0 where
   pub normal : IsNormal 256 coming_so.sp
   pub entry : IsEntrySp coming_so.known_sp
 
-at_listed : (laws : InstructionLaws) (sp : Form) (source level : ℕ) (coming_so : Coming) → IsNormal 256 sp → source < 6 → 1 ≤ level → level ≤ 3 → Contains (comings_at sp source level) coming_so → IsListed coming_so
+at_listed : (laws : InstructionLaws) (sp : Form) (source level : ℕ) (coming_so : Coming) → IsNormal 256 sp → source < 6
+    → 1 ≤ level → level ≤ 3 → Contains (comings_at sp source level) coming_so → IsListed coming_so
 at_listed laws (Values sps) source level coming_so normal below least most h =
     let made : ℕ → Coming = λ sp. record { source = source; level = level; known_sp = Some sp; sp = single sp } in
     let found = from_map made sps coming_so h in
@@ -166,12 +173,14 @@ at_listed laws (Run p) source level coming_so normal below least most h =
     let is : IsListed one = record { below = below; least = least; most = most; normal = normal; entry = tt } in
     subst IsListed (in_one one coming_so h) is
 
-level_listed : (laws : InstructionLaws) (a : Known) (source level : ℕ) (coming_so : Coming) → IsNormal 256 a.sp → source < 6 → 1 ≤ level → level ≤ 3 → Contains (level_comings a source level) coming_so → IsListed coming_so
+level_listed : (laws : InstructionLaws) (a : Known) (source level : ℕ) (coming_so : Coming) → IsNormal 256 a.sp
+    → source < 6 → 1 ≤ level → level ≤ 3 → Contains (level_comings a source level) coming_so → IsListed coming_so
 level_listed laws a source level coming_so normal below least most h =
     cond_both (may_level a source level) (comings_at a.sp source level) [] (λ (list : List Coming). Contains list coming_so → IsListed coming_so)
     (λ may there. at_listed laws a.sp source level coming_so normal below least most there) (λ may there. absurd (in_none coming_so there)) h
 
-source_listed : (laws : InstructionLaws) (a : Known) (source : ℕ) (coming_so : Coming) → IsNormal 256 a.sp → source < 6 → Contains (source_comings a source) coming_so → IsListed coming_so
+source_listed : (laws : InstructionLaws) (a : Known) (source : ℕ) (coming_so : Coming) → IsNormal 256 a.sp → source < 6
+    → Contains (source_comings a source) coming_so → IsListed coming_so
 source_listed laws a source coming_so normal below h =
     let one = level_comings a source 1 in
     let two = level_comings a source 2 in
@@ -186,7 +195,8 @@ source_listed laws a source coming_so normal below h =
     ])
     (λ may there. absurd (in_none coming_so there)) h
 
-pub is_listed : (laws : InstructionLaws) (a : Known) (coming_so : Coming) → IsNormal 256 a.sp → Contains (comings_of a) coming_so → IsListed coming_so
+pub is_listed : (laws : InstructionLaws) (a : Known) (coming_so : Coming) → IsNormal 256 a.sp
+    → Contains (comings_of a) coming_so → IsListed coming_so
 unfolding comings_of
 is_listed laws a coming_so normal h =
     let all = flat_map (source_comings a) (range_with_len 0 6) in
@@ -195,12 +205,14 @@ is_listed laws a coming_so normal h =
     source_listed laws a found.0 coming_so normal (in_range 6 found.0 found.1) found.2)
     (λ may there. absurd (in_none coming_so there)) h
 
-pub frame_so : (laws : InstructionLaws) (framed : Bool) (a : Known) (coming_so : Coming) → IsKnown framed a → Contains (comings_of a) coming_so → IsFrame (frame_of_coming coming_so)
+pub frame_so : (laws : InstructionLaws) (framed : Bool) (a : Known) (coming_so : Coming) → IsKnown framed a
+    → Contains (comings_of a) coming_so → IsFrame (frame_of_coming coming_so)
 frame_so laws framed a coming_so form h = let is = is_listed laws a coming_so form.sp h in (is.below, is.entry, is.least, is.most)
 
 -- whatever is known, a listed interrupt is one of the six
 
-at_source : (sp : Form) (source level : ℕ) (coming_so : Coming) → Contains (comings_at sp source level) coming_so → coming_so.source ≡ source
+at_source : (sp : Form) (source level : ℕ) (coming_so : Coming) → Contains (comings_at sp source level) coming_so
+    → coming_so.source ≡ source
 at_source (Values sps) source level coming_so h =
     let made : ℕ → Coming = λ sp. record { source = source; level = level; known_sp = Some sp; sp = single sp } in
     let found = from_map made sps coming_so h in
@@ -209,7 +221,8 @@ at_source (Run p) source level coming_so h =
     let one : Coming = record { source = source; level = level; known_sp = None; sp = Run p } in
     ap (λ (c : Coming). c.source) (sym (in_one one coming_so h))
 
-level_source : (a : Known) (source level : ℕ) (coming_so : Coming) → Contains (level_comings a source level) coming_so → coming_so.source ≡ source
+level_source : (a : Known) (source level : ℕ) (coming_so : Coming) → Contains (level_comings a source level) coming_so
+    → coming_so.source ≡ source
 level_source a source level coming_so h =
     cond_both (may_level a source level) (comings_at a.sp source level) [] (λ (list : List Coming). Contains list coming_so → coming_so.source ≡ source)
     (λ may there. at_source a.sp source level coming_so there) (λ may there. absurd (in_none coming_so there)) h

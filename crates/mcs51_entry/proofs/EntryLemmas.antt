@@ -53,7 +53,8 @@ low_value laws s small = record {
   holds = ((laws.known.sets.single 256 (s.pc % 256) (omega arith)).1, from_itself s 512 (s.pc % 256) (omega arith) refl);
 }
 
-high_value : (laws : InstructionLaws) (s : ChipState) → s.pc < 65536 → IsValue true (Some s) (related 513 (single (s.pc / 256))) (s.pc / 256)
+high_value : (laws : InstructionLaws) (s : ChipState) → s.pc < 65536
+    → IsValue true (Some s) (related 513 (single (s.pc / 256))) (s.pc / 256)
 high_value laws s small = record {
   form = high_form laws s.pc small;
   holds = ((laws.known.sets.single 256 (s.pc / 256) (omega (arith, small))).1, from_itself s 513 (s.pc / 256) (omega (arith, small)) refl);
@@ -61,40 +62,48 @@ high_value laws s small = record {
 
 -- THE LEVEL
 
-linear_stays : (fact : Option LinearFact) (s : ChipState) (high : Bool) (pc : ℕ) → HoldsOfLinear fact s → HoldsOfLinear fact (serving high (going_to pc s))
+linear_stays : (fact : Option LinearFact) (s : ChipState) (high : Bool) (pc : ℕ) → HoldsOfLinear fact s
+    → HoldsOfLinear fact (serving high (going_to pc s))
 linear_stays None s high pc holds = holds
 linear_stays (Some fact) s true pc holds = holds
 linear_stays (Some fact) s false pc holds = holds
 
-told_stays : (place : Compared) (bound : ℕ) (s : ChipState) (high : Bool) (pc : ℕ) → HoldsOfCarry (Some (record { compared = place; bound = bound })) s
+told_stays : (place : Compared) (bound : ℕ) (s : ChipState) (high : Bool) (pc : ℕ)
+    → HoldsOfCarry (Some (record { compared = place; bound = bound })) s
     → HoldsOfCarry (Some (record { compared = place; bound = bound })) (serving high (going_to pc s))
 told_stays Accumulator bound s true pc holds = holds
 told_stays Accumulator bound s false pc holds = holds
 told_stays (Ram at) bound s true pc holds = holds
 told_stays (Ram at) bound s false pc holds = holds
 
-carry_stays : (fact : Option CarryFact) (s : ChipState) (high : Bool) (pc : ℕ) → HoldsOfCarry fact s → HoldsOfCarry fact (serving high (going_to pc s))
+carry_stays : (fact : Option CarryFact) (s : ChipState) (high : Bool) (pc : ℕ) → HoldsOfCarry fact s
+    → HoldsOfCarry fact (serving high (going_to pc s))
 carry_stays None s high pc holds = holds
 carry_stays (Some fact) s high pc holds = told_stays fact.compared fact.bound s high pc holds
 
 with_levels : Levels → Known → Known
 with_levels levels known = record known { levels = levels }
 
-high_served : (known : Known) (levels : Levels) (t s : ChipState) (pc : ℕ) → pc < 65536 → may_serve levels t.serves_low true ≡ true → HoldsOf known t (Some s) → HoldsOf (with_levels levels known) (serving true (going_to pc t)) (Some s)
+high_served : (known : Known) (levels : Levels) (t s : ChipState) (pc : ℕ) → pc < 65536
+    → may_serve levels t.serves_low true ≡ true → HoldsOf known t (Some s)
+    → HoldsOf (with_levels levels known) (serving true (going_to pc t)) (Some s)
 unfolding with_levels
 high_served known levels t s pc small serves holds =
     let linear = linear_stays known.linear_fact t true pc holds.parts.linear_fact in
     let carry = carry_stays known.carry_fact t true pc holds.parts.carry_fact in
     assumption (holds, small, serves, linear, carry)
 
-low_served : (known : Known) (levels : Levels) (t s : ChipState) (pc : ℕ) → pc < 65536 → may_serve levels true t.serves_high ≡ true → HoldsOf known t (Some s) → HoldsOf (with_levels levels known) (serving false (going_to pc t)) (Some s)
+low_served : (known : Known) (levels : Levels) (t s : ChipState) (pc : ℕ) → pc < 65536
+    → may_serve levels true t.serves_high ≡ true → HoldsOf known t (Some s)
+    → HoldsOf (with_levels levels known) (serving false (going_to pc t)) (Some s)
 unfolding with_levels
 low_served known levels t s pc small serves holds =
     let linear = linear_stays known.linear_fact t false pc holds.parts.linear_fact in
     let carry = carry_stays known.carry_fact t false pc holds.parts.carry_fact in
     assumption (holds, small, serves, linear, carry)
 
-served : (known : Known) (levels : Levels) (t s : ChipState) (high : Bool) (pc : ℕ) → pc < 65536 → may_serve levels (if high then t.serves_low else true) (if high then true else t.serves_high) ≡ true
+served : (known : Known) (levels : Levels) (t s : ChipState) (high : Bool) (pc : ℕ) → pc < 65536
+    → may_serve levels (if high then t.serves_low else true) (if high then true else t.serves_high) ≡ true
     → HoldsOf known t (Some s) → HoldsOf (with_levels levels known) (serving high (going_to pc t)) (Some s)
 served known levels t s true pc small serves holds = high_served known levels t s pc small serves holds
 served known levels t s false pc small serves holds = low_served known levels t s pc small serves holds
@@ -105,7 +114,8 @@ served_at false t pc = refl
 
 -- WHERE THE HANDLER BEGINS
 
-pub covered : (laws : InstructionLaws) (framed : Bool) (a : Known) (s : ChipState) (first : Option ChipState) (coming_so : Coming) → IsUnder framed a s first → ComesSo a s coming_so
+pub covered : (laws : InstructionLaws) (framed : Bool) (a : Known) (s : ChipState) (first : Option ChipState) (coming_so : Coming)
+    → IsUnder framed a s first → ComesSo a s coming_so
     → Covers (At (vector_of coming_so.source) [] (frame_of_coming coming_so)) (entered_known a s.pc coming_so) (serving (is_high s coming_so.source) (called (vector_of coming_so.source) s)) (Some s)
 unfolding entered_known with_levels
 covered laws framed a s first coming_so under so =
@@ -131,7 +141,8 @@ covered laws framed a s first coming_so under so =
 levels_form : (known : Known) (levels : Levels) → AreLevels levels → IsKnown true known → IsKnown true (record known { levels = levels })
 levels_form known levels are form = assumption (form, are)
 
-pub entered_form : (laws : InstructionLaws) (framed : Bool) (a : Known) (pc : ℕ) (coming_so : Coming) → IsKnown framed a → pc < 65536 → Contains (comings_of a) coming_so → IsKnown true (entered_known a pc coming_so)
+pub entered_form : (laws : InstructionLaws) (framed : Bool) (a : Known) (pc : ℕ) (coming_so : Coming) → IsKnown framed a
+    → pc < 65536 → Contains (comings_of a) coming_so → IsKnown true (entered_known a pc coming_so)
 unfolding entered_known
 entered_form laws framed a pc coming_so form small h =
     let is = is_listed laws a coming_so form.sp h in
@@ -141,10 +152,12 @@ entered_form laws framed a pc coming_so form small h =
 
 -- WHAT IS SHOWN
 
-showing_more : (item other : Item) (pc : ℕ) (access : Access) → AreShowing (item ∷ []) (accessed pc access) → AreShowing (item ∷ other ∷ []) (accessed pc access)
+showing_more : (item other : Item) (pc : ℕ) (access : Access) → AreShowing (item ∷ []) (accessed pc access)
+    → AreShowing (item ∷ other ∷ []) (accessed pc access)
 showing_more item other pc access shows = (shows.0, Contains-append_left (item ∷ []) (other ∷ []) shows.0 shows.1, shows.2)
 
-showing_later : (item other : Item) (pc : ℕ) (access : Access) → AreShowing (other ∷ []) (accessed pc access) → AreShowing (item ∷ other ∷ []) (accessed pc access)
+showing_later : (item other : Item) (pc : ℕ) (access : Access) → AreShowing (other ∷ []) (accessed pc access)
+    → AreShowing (item ∷ other ∷ []) (accessed pc access)
 showing_later item other pc access shows = (shows.0, Contains-append_right (item ∷ []) (other ∷ []) shows.0 shows.1, shows.2)
 
 raised_normal : (laws : InstructionLaws) (sp : Form) → IsNormal 256 sp → IsNormal 256 (raised sp)
@@ -153,7 +166,8 @@ raised_normal laws sp normal = laws.known.sets.add_normal 256 sp (single 1) norm
 raised_has : (laws : InstructionLaws) (sp : Form) (v : ℕ) → IsNormal 256 sp → Has 256 sp v → Has 256 (raised sp) ((v + 1) % 256)
 raised_has laws sp v normal has = let one = laws.known.sets.single 256 1 (omega arith) in laws.known.sets.add 256 v 1 sp (single 1) normal one.0 has one.1
 
-pub shown : (laws : InstructionLaws) (framed : Bool) (a : Known) (s : ChipState) (first : Option ChipState) (coming_so : Coming) → IsUnder framed a s first → ComesSo a s coming_so
+pub shown : (laws : InstructionLaws) (framed : Bool) (a : Known) (s : ChipState) (first : Option ChipState) (coming_so : Coming)
+    → IsUnder framed a s first → ComesSo a s coming_so
     → AreShown (entry_accesses s.pc coming_so) s.pc (push_writes s)
 shown laws framed a s first coming_so under so access there =
     let is = is_listed laws a coming_so under.form.sp so.listed in

@@ -23,14 +23,16 @@ use Rattle.mcs51_entry.proofs.Relations.{from_itself, ie_same, ip_same}
 related_form : (place : ℕ) (set : Form) → is_place place ≡ true → IsNormal 256 set → IsByte true (related place set)
 related_form place set is normal = record { normal = normal; entry = (is, omega arith, omega arith) }
 
-each_plain : (laws : InstructionLaws) (framed : Bool) (cells : List Cell) → All (IsChipCell framed) cells → All (IsChipCell true) (kept unrelated cells)
+each_plain : (laws : InstructionLaws) (framed : Bool) (cells : List Cell) → All (IsChipCell framed) cells
+    → All (IsChipCell true) (kept unrelated cells)
 each_plain laws framed cells forms k d inside =
     let cell = get_or (kept unrelated cells) k d in
     let (held, among, is) = laws.known.frames.plain_each cells cell (Contains-get_or (kept unrelated cells) k d inside) in
     let one : IsChipCell true (plain_cell held) = record { size = (All-contains (IsChipCell framed) cells held forms among).size; entry = tt } in
     subst (IsChipCell true) is one
 
-pub handed_form : (laws : InstructionLaws) (framed : Bool) (sp : Form) (a : Known) → IsNormal 256 sp → IsKnown framed a → IsKnown true (handed sp a)
+pub handed_form : (laws : InstructionLaws) (framed : Bool) (sp : Form) (a : Known) → IsNormal 256 sp → IsKnown framed a
+    → IsKnown true (handed sp a)
 unfolding handed
 handed_form laws framed sp a normal form = record {
   sp = normal;
@@ -55,7 +57,8 @@ handed_form laws framed sp a normal form = record {
 
 -- WHAT IT HOLDS OF
 
-handed_holds : (laws : InstructionLaws) (framed : Bool) (sp : Form) (a : Known) (s : ChipState) (first : Option ChipState) → Has 256 sp s.sp → IsUnder framed a s first → HoldsOf (handed sp a) s (Some s)
+handed_holds : (laws : InstructionLaws) (framed : Bool) (sp : Form) (a : Known) (s : ChipState) (first : Option ChipState)
+    → Has 256 sp s.sp → IsUnder framed a s first → HoldsOf (handed sp a) s (Some s)
 unfolding handed
 handed_holds laws framed sp a s first has under =
     let parts = under.holds.parts in
@@ -87,7 +90,8 @@ handed_holds laws framed sp a s first has under =
       };
     }
 
-pub handed_under : (laws : InstructionLaws) (framed : Bool) (sp : Form) (a : Known) (s : ChipState) (first : Option ChipState) → IsNormal 256 sp → Has 256 sp s.sp → IsUnder framed a s first → IsUnder true (handed sp a) s (Some s)
+pub handed_under : (laws : InstructionLaws) (framed : Bool) (sp : Form) (a : Known) (s : ChipState) (first : Option ChipState)
+    → IsNormal 256 sp → Has 256 sp s.sp → IsUnder framed a s first → IsUnder true (handed sp a) s (Some s)
 handed_under laws framed sp a s first normal has under = record {
   base = tt;
   form = handed_form laws framed sp a normal under.form;

@@ -24,7 +24,8 @@ allowed_so s false e = e
 abbrev pub level_by : (high low : Bool) → ℕ
 level_by high low = if high then if low then 3 else 2 else 1
 
-pub level_may : (a : Known) (source : ℕ) (high low up : Bool) → may_serve a.levels low up ≡ true → allows high low up ≡ true → may_have a source high ≡ true → may_level a source (level_by high low) ≡ true
+pub level_may : (a : Known) (source : ℕ) (high low up : Bool) → may_serve a.levels low up ≡ true
+    → allows high low up ≡ true → may_have a source high ≡ true → may_level a source (level_by high low) ≡ true
 unfolding allows
 level_may a source true true false serves allowed have = and_from (may_have a source true) a.levels.low have serves
 level_may a source true false false serves allowed have = and_from (may_have a source true) a.levels.none have serves
@@ -34,7 +35,8 @@ level_may a source false true up serves allowed have = absurd (cc)
 level_may a source false false true serves allowed have = absurd (cc)
 
 -- those of the handler's state: the source's level is then in service
-pub level_serves : (high low up : Bool) → allows high low up ≡ true → may_serve (levels_at (level_by high low)) (if high then low else true) (if high then true else up) ≡ true
+pub level_serves : (high low up : Bool) → allows high low up ≡ true
+    → may_serve (levels_at (level_by high low)) (if high then low else true) (if high then true else up) ≡ true
 unfolding allows
 level_serves true true false allowed = refl
 level_serves true false false allowed = refl

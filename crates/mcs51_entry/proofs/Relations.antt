@@ -10,7 +10,8 @@ use Rattle.mcs51_state.specs.Places.{suspended_of}
 use Rattle.mcs51_entry.specs.Entering.{itself}
 
 -- a number with the bits that the place holds came from it, whatever its other bits are
-pub from_itself : (s : ChipState) (place v : ℕ) → v < 256 → bit_and v ((suspended_of s).held place) ≡ bit_and ((suspended_of s).number place) ((suspended_of s).held place)
+pub from_itself : (s : ChipState) (place v : ℕ) → v < 256
+    → bit_and v ((suspended_of s).held place) ≡ bit_and ((suspended_of s).number place) ((suspended_of s).held place)
     → IsFromEntry (Some (suspended_of s)) (Some (itself place)) v
 from_itself s place v small same =
     let masked : bit_and v 255 ≡ v = and_mask v 8 ∙ omega (arith, small) in

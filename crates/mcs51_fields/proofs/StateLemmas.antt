@@ -68,12 +68,14 @@ three_in_front a b c rest =
     append_assoc a (32 ∷ (b ++ 32 ∷ (c ++ 32 ∷ []))) rest
     ∙ ap (λ (t : List ℕ). a ++ 32 ∷ t) (append_assoc b (32 ∷ (c ++ 32 ∷ [])) rest ∙ ap (λ (t : List ℕ). b ++ 32 ∷ t) (append_assoc c (32 ∷ []) rest))
 
-four_in_front : (a b c d rest : List ℕ) → (a ++ 32 ∷ (b ++ 32 ∷ (c ++ 32 ∷ (d ++ 32 ∷ [])))) ++ rest ≡ a ++ 32 ∷ (b ++ 32 ∷ (c ++ 32 ∷ (d ++ 32 ∷ rest)))
+four_in_front : (a b c d rest : List ℕ)
+    → (a ++ 32 ∷ (b ++ 32 ∷ (c ++ 32 ∷ (d ++ 32 ∷ [])))) ++ rest ≡ a ++ 32 ∷ (b ++ 32 ∷ (c ++ 32 ∷ (d ++ 32 ∷ rest)))
 four_in_front a b c d rest =
     append_assoc a (32 ∷ (b ++ 32 ∷ (c ++ 32 ∷ (d ++ 32 ∷ [])))) rest ∙ ap (λ (t : List ℕ). a ++ 32 ∷ t) (three_in_front b c d rest)
 
 -- the three groups, and RAM behind them
-pub all_written : (k : Known) (out one two three : List ℕ) → one ≡ out ++ first_text k.sp k.a k.b k.dpl → two ≡ one ++ second_text k.dph k.ie k.ip
+pub all_written : (k : Known) (out one two three : List ℕ) → one ≡ out ++ first_text k.sp k.a k.b k.dpl
+    → two ≡ one ++ second_text k.dph k.ie k.ip
     → three ≡ two ++ third_text k.psw k.levels k.linear_fact k.carry_fact
     → three ++ (memory_field true).text (k.cells.cells, k.touched) ≡ out ++ known_text k
 all_written k out one two three is_one is_two is_three =

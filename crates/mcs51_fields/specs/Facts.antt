@@ -117,7 +117,8 @@ some_service levels true false e = rw e (omega arith)
 some_service levels false true e = rw e (omega arith)
 some_service levels true true e = rw e (omega arith)
 
-service : (none low high both : Bool) → 0 < digit_of none low high both → AreLevels (record { none = none; low = low; high = high; both = both })
+service : (none low high both : Bool) → 0 < digit_of none low high both
+    → AreLevels (record { none = none; low = low; high = high; both = both })
 service true low high both some = (false, false, refl)
 service false true high both some = (true, false, refl)
 service false false true both some = (false, true, refl)
@@ -176,7 +177,8 @@ linear_is_exact =
     (λ parts form. refl)))
     linear_narrow linear_wide
 
-linear_avoids : (at : ℕ) → is_digit at ≡ false → (42 == at) ≡ false → (43 == at) ≡ false → has_byte at (codes "-") ≡ false → Avoids linear_field at
+linear_avoids : (at : ℕ) → is_digit at ≡ false → (42 == at) ≡ false → (43 == at) ≡ false
+    → has_byte at (codes "-") ≡ false → Avoids linear_field at
 linear_avoids at no_digit no_star no_plus no_dash =
     restated_avoids (or_mark some_linear (codes "-")) IsLinear at linear_narrow
     (or_mark_avoids some_linear (codes "-") at no_dash (some_linear_avoids at no_digit no_star no_plus))
@@ -204,7 +206,8 @@ compared_is_exact =
     (named_is_exact (hex_number 2) (codes "m") (hex_number_is_exact 2)))
     (λ at form. compared_back at)
 
-compared_avoids : (at : ℕ) → is_digit at ≡ false → has_byte at (codes "m") ≡ false → has_byte at (codes "A") ≡ false → Avoids compared_field at
+compared_avoids : (at : ℕ) → is_digit at ≡ false → has_byte at (codes "m") ≡ false → has_byte at (codes "A") ≡ false
+    → Avoids compared_field at
 compared_avoids at no_digit no_ram no_a =
     told_by_avoids (or_mark ram_field (codes "A")) compared_of address_of at (or_mark_avoids ram_field (codes "A") at no_a (ram_avoids at no_digit no_ram))
 

@@ -34,7 +34,8 @@ is_own place unheld None = true
 is_own place unheld (Some entry) = (entry.place == place) && ((bit_and entry.and unheld == unheld) && (bit_and entry.or unheld == 0))
 
 abbrev pub own_value : (place unheld : ℕ) → (framed : Bool) → Spelling Byte
-own_value place unheld framed = restated (passing (byte_field 2 place_field framed) (λ byte. is_own place unheld byte.entry)) (IsOwnByte framed place unheld)
+own_value place unheld framed =
+    restated (passing (byte_field 2 place_field framed) (λ byte. is_own place unheld byte.entry)) (IsOwnByte framed place unheld)
 
 -- the bits 1 and 0 of PSW may be either
 abbrev pub begins_free : List Tri → Bool
@@ -176,12 +177,14 @@ status_item framed =
 
 -- CELLS
 
-related_back : (framed : Bool) (cells : List Cell) → AllByRecursion (IsChipCell framed) cells → AreRelated 2 IsPlace framed is_chip_cell cells
+related_back : (framed : Bool) (cells : List Cell) → AllByRecursion (IsChipCell framed) cells
+    → AreRelated 2 IsPlace framed is_chip_cell cells
 related_back framed [] forms = tt
 related_back framed (cell ∷ cells) forms =
     ((relation_is framed cell.word.entry).0 forms.0.entry, eq-eqb cell.size 1 forms.0.size, related_back framed cells forms.1)
 
-related_only : (framed : Bool) (cells : List Cell) → AreRelated 2 IsPlace framed is_chip_cell cells → AllByRecursion (IsChipCell framed) cells
+related_only : (framed : Bool) (cells : List Cell) → AreRelated 2 IsPlace framed is_chip_cell cells
+    → AllByRecursion (IsChipCell framed) cells
 related_only framed [] related = tt
 related_only framed (cell ∷ cells) related =
     (record { size = eqb-true cell.size 1 related.1; entry = (relation_is framed cell.word.entry).1 related.0 }, related_only framed cells related.2)

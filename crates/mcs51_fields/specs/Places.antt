@@ -101,7 +101,8 @@ kinds_are_exact =
     (one_named_is_exact register_rows refl) (λ at form. has_byte-first 109 ((hex_number 2).text at)) (one_named_avoids register_rows 109 refl)
 
 pub place_is_exact : IsExact place_field
-place_is_exact = restated_is_exact (told_by kinds_field number_of kind_of) IsPlace (told_by_is_exact kinds_field number_of kind_of kinds_are_exact kind_back)
+place_is_exact =
+    restated_is_exact (told_by kinds_field number_of kind_of) IsPlace (told_by_is_exact kinds_field number_of kind_of kinds_are_exact kind_back)
     place_narrow place_wide
 
 pub ram_avoids : (at : ℕ) → is_digit at ≡ false → has_byte at (codes "m") ≡ false → Avoids ram_field at

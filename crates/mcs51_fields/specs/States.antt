@@ -149,7 +149,8 @@ known_of parts = record {
 }
 
 abbrev pub parts_of : Known → Parts
-parts_of k = (k.sp, (k.a, (k.b, (k.dpl, (k.dph, (k.ie, (k.ip, (k.psw, (k.levels, (k.linear_fact, (k.carry_fact, (k.cells.cells, k.touched))))))))))))
+parts_of k =
+    (k.sp, (k.a, (k.b, (k.dpl, (k.dph, (k.ie, (k.ip, (k.psw, (k.levels, (k.linear_fact, (k.carry_fact, (k.cells.cells, k.touched))))))))))))
 
 -- a state in an interrupt's frame or in none
 abbrev pub known_field : (framed : Bool) → Spelling Known
@@ -250,7 +251,8 @@ known_wide framed k form =
     }
 
 pub known_line : (framed : Bool) → IsLine (known_field framed)
-known_line framed = told_line known_of parts_of (IsKnown framed) (λ parts form. refl) (known_narrow framed) (known_wide framed) (parts_line framed)
+known_line framed =
+    told_line known_of parts_of (IsKnown framed) (λ parts form. refl) (known_narrow framed) (known_wide framed) (parts_line framed)
 
 -- what is read at a node is in form there, and each state in form is read again
 pub state_back : (node : Node) (k : Known) → HasChipForm node k → state_in node (known_text k) ≡ Some k

@@ -13,7 +13,8 @@ ghost use Rattle.mcs51_fields.specs.States.{known_text, state_in};
 /// text. No field of a state is outside exactly where it is within.
 pub fn states_have_texts()
     ensures again { (node : ANode) (a : Known) → HasChipForm node a → state_in node (known_text a) ≡ Some a }
-    ensures takes { (node : ANode) (text : List ℕ) (a : Known) → state_in node text ≡ Some a → HasChipForm node a × (known_text a ≡ text) }
+    ensures takes { (node : ANode) (text : List ℕ) (a : Known) → state_in node text ≡ Some a
+        → HasChipForm node a × (known_text a ≡ text) }
     ensures one_line { (node : ANode) (a : Known) → HasChipForm node a → IsOneLine (known_text a) }
     ensures nodes { (node : ANode) (a : Known) → HasChipForm node a → IsNodeText 2 node }
     ensures included { (new held : Known) → (outside_of new held ≡ None) ↔ (known_within new held ≡ true) }

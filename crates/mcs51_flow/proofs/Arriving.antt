@@ -35,14 +35,16 @@ onward_formed laws framed false limit behind (Lands targets a) below form =
 onward_formed laws framed leaves limit behind (Goes target on jumped) below form = (below, form.0, form.1, form.2)
 
 -- a site that is left open has more targets than are followed
-pub open_leads : (way : Way Known) (leaves : Bool) (limit behind : ℕ) (values : Form) → onward_by way leaves limit behind ≡ onward.Open values
+pub open_leads : (way : Way Known) (leaves : Bool) (limit behind : ℕ) (values : Form)
+    → onward_by way leaves limit behind ≡ onward.Open values
     → LeadsTo way values × (limit < count_of 65536 values)
 open_leads (Lands targets a) true limit behind values is = absurd (cc)
 open_leads (Lands targets a) false limit behind values is = limited_open limit targets values (onward.Lands targets a) (λ e. cc) is
 open_leads (Goes target on jumped) leaves limit behind values is = absurd (cc)
 
 -- what is left at the exit of a frame is behind a return
-pub leaves_back : (way : Way Known) (leaves : Bool) (limit behind : ℕ) (b : Known) → onward_by way leaves limit behind ≡ onward.Leaves b → leaves ≡ true
+pub leaves_back : (way : Way Known) (leaves : Bool) (limit behind : ℕ) (b : Known)
+    → onward_by way leaves limit behind ≡ onward.Leaves b → leaves ≡ true
 leaves_back (Lands targets a) true limit behind b is = refl
 leaves_back (Lands targets a) false limit behind b is =
     limited_is limit targets (onward.Lands targets a) (λ (o : Onward Known). o ≡ onward.Leaves b → false ≡ true) (λ e. absurd (cc)) (λ e. absurd (cc)) is
@@ -51,7 +53,8 @@ leaves_back (Goes target on jumped) leaves limit behind b is = absurd (cc)
 -- THE STATE BEHIND
 
 -- what stands under a state stands under one that this is within
-holds_more : Laws → (a b : Known) (t : ChipState) (first : Option ChipState) → known_within a b ≡ true → HoldsOf a t first → HoldsOf b t first
+holds_more : Laws → (a b : Known) (t : ChipState) (first : Option ChipState) → known_within a b ≡ true
+    → HoldsOf a t first → HoldsOf b t first
 holds_more laws a b t first within holds = record {
   state = holds.state;
   suspended = holds.suspended;
@@ -59,7 +62,9 @@ holds_more laws a b t first within holds = record {
 }
 
 -- on one of the two ways of a jump; s has the address behind it
-pub either_way : Laws → (framed : Bool) (first : Option ChipState) (target : ℕ) (on jumped : Option Known) (s t : ChipState) → IfSome on (IsKnown framed) → IfSome jumped (IsKnown framed)
+pub either_way : Laws
+    → (framed : Bool) (first : Option ChipState) (target : ℕ) (on jumped : Option Known) (s t : ChipState)
+    → IfSome on (IsKnown framed) → IfSome jumped (IsKnown framed)
     → GoesOneWay framed first target on jumped s t → HasWay (λ b. HoldsOf b t first) (ways_of known_joined s.pc target on jumped) t.pc
 either_way laws framed first target on jumped s t f g (GoesOn behind is leads) =
     subst (HasWay (λ b. HoldsOf b t first) (ways_of known_joined s.pc target on jumped)) (sym leads.onward)

@@ -29,7 +29,8 @@ onward laws {framed} {first} {items} {pc} {a} {behind} {s} {asking} under does =
     weaken (DoesSo framed first items pc behind s) (LandsSo framed first items pc (single s.pc) behind) asking
     (λ effect so. record { shown = so.shown; target = subst (Has 65536 (single s.pc)) (sym so.leads.onward) (laws.known.sets.single 65536 s.pc under.holds.state.pc).1; under = so.leads.under }) does
 
-nop_lands : (laws : Premises) (framed : Bool) (a : Known) (s : ChipState) (first : Option ChipState) (image : List (Option ℕ)) (pc : ℕ) → IsUnder framed a s first
+nop_lands : (laws : Premises) (framed : Bool) (a : Known) (s : ChipState) (first : Option ChipState) (image : List (Option ℕ)) (pc : ℕ)
+    → IsUnder framed a s first
     → Gives (LandsSo framed first [] pc (single s.pc) a) (effect_of image s Nop)
 unfolding effect_of
 nop_lands laws framed a s first image pc under =
@@ -81,7 +82,8 @@ runs_from laws framed a s first image pc (Pop direct) under is bytes = onward la
 runs_from laws framed a s first image pc (Exchange m) under is bytes = onward laws under (laws.moves.exchange framed a s first image pc m under is)
 runs_from laws framed a s first image pc (ExchangeDigit i) under is bytes = onward laws under (laws.moves.exchange_digit framed a s first image pc i under)
 
-pub instruction_runs : (laws : Premises) (framed : Bool) (a : Known) (s : ChipState) (first : Option ChipState) (image : List (Option ℕ)) (pc : ℕ) (instr : Instr) → IsUnder framed a s first → IsInstr instr → All IsImageByte image
+pub instruction_runs : (laws : Premises) (framed : Bool) (a : Known) (s : ChipState) (first : Option ChipState) (image : List (Option ℕ)) (pc : ℕ) (instr : Instr)
+    → IsUnder framed a s first → IsInstr instr → All IsImageByte image
     → Gives (RunsSo framed first pc (ran_of image framed pc a instr) (going_to (following pc instr) s)) (effect_of image (going_to (following pc instr) s) instr)
 instruction_runs laws framed a s first image pc instr under is bytes =
     runs_from laws framed a (going_to (following pc instr) s) first image pc instr (laws.stores.writes.counter framed first (following pc instr) (omega arith) a s under) is bytes

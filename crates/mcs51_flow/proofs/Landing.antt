@@ -49,12 +49,14 @@ use Rattle.mcs51_flow.proofs.Arriving.{either_way}
 use Rattle.mcs51_flow.proofs.Premises.{Laws}
 use Rattle.mcs51_flow.proofs.Returning.{is_return, return_goes, return_lands}
 
-accesses_shown : (some : List Item) (pc : ℕ) (accesses : List Access) (item : Single) → AreShown some pc accesses → Contains (map (accessed pc) accesses) item → AreShowing some item
+accesses_shown : (some : List Item) (pc : ℕ) (accesses : List Access) (item : Single) → AreShown some pc accesses
+    → Contains (map (accessed pc) accesses) item → AreShowing some item
 accesses_shown some pc accesses item shown there =
     let (access, listed, same) = from_map (accessed pc) accesses item there in
     subst (AreShowing some) same (shown access listed)
 
-parts_of : (items_so others : List Single) (t u : ChipState) → ◌≡◌ {A = Outcome} (Onward items_so t) (Onward others u) → (items_so ≡ others) × (t ≡ u)
+parts_of : (items_so others : List Single) (t u : ChipState) → ◌≡◌ {A = Outcome} (Onward items_so t) (Onward others u)
+    → (items_so ≡ others) × (t ≡ u)
 parts_of items_so others t u e = (cc, cc)
 
 -- WHERE AN INSTRUCTION LANDS
@@ -69,7 +71,8 @@ pub record AtLocation (setting : Setting) (frame : Frame) (a : Known) (s : ChipS
   pub runs : RunsSo (is_interrupt frame) first s.pc (ran_of setting.image (is_interrupt frame) s.pc a instr_so) (going_to (following s.pc instr_so) s) effect
 
 -- the accesses of an instruction are shown, whichever way it goes
-way_shown : (framed : Bool) (first : Option ChipState) (items : List Item) (pc : ℕ) (made : Way Known) (s : ChipState) (effect : Effect) → IsWaySo framed first items pc made s effect
+way_shown : (framed : Bool) (first : Option ChipState) (items : List Item) (pc : ℕ) (made : Way Known) (s : ChipState) (effect : Effect)
+    → IsWaySo framed first items pc made s effect
     → AreShown items pc effect.0
 way_shown framed first items pc (way.Lands targets behind) s effect so = so.shown
 way_shown framed first items pc (way.Goes target on jumped) s effect so = so.shown
@@ -87,7 +90,8 @@ module _ (laws : Laws) (setting : Setting) (calls : List ℕ) (frame : Frame) (a
   unfolding mcs51_machine
   on_ways made found = on_way found.way found.listed found.goes (found.goes, found.holds, at.in_frame)
 
-  arrives_by : (back : Bool) → leaves_frame frame a instr_so ≡ back → (made : Way Known) → ran_so.way ≡ made → IsWay (is_interrupt frame) made
+  arrives_by : (back : Bool) → leaves_frame frame a instr_so ≡ back → (made : Way Known) → ran_so.way ≡ made
+      → IsWay (is_interrupt frame) made
       → IsWaySo (is_interrupt frame) first ran_so.items s.pc made (going_to (following s.pc instr_so) s) effect
       → ArrivesAt (onward_by made back setting.limits.targets (following s.pc instr_so))
   arrives_by true is (way.Lands targets b) ran form so =
@@ -101,7 +105,8 @@ module _ (laws : Laws) (setting : Setting) (calls : List ℕ) (frame : Frame) (a
       let next = following s.pc instr_so in
       on_ways (onward.Jumps next target on jumped) (either_way laws (is_interrupt frame) first target on jumped (going_to next s) effect.1 form.1 form.2 so.goes)
 
-  pub run_lands : (items_so : List Single) (t : ChipState) → (work_at known_joined (mcs51_flow setting) s.pc calls frame a (Some instr_so)).opens ≡ []
+  pub run_lands : (items_so : List Single) (t : ChipState)
+      → (work_at known_joined (mcs51_flow setting) s.pc calls frame a (Some instr_so)).opens ≡ []
       → ◌≡◌ {A = Outcome} (Onward items_so t) (stepped s (RanOne s.pc (bytes_of instr_so) ∷ []) effect)
       → Lands (mcs51_machine setting.image) (mcs51_analysis setting) Covers (At s.pc calls frame) (work_at known_joined (mcs51_flow setting) s.pc calls frame a (Some instr_so)) s first items_so t
   unfolding mcs51_machine
@@ -132,7 +137,8 @@ serving_goes : (high : Bool) (s : ChipState) → (serving high s).pc ≡ s.pc
 serving_goes true s = refl
 serving_goes false s = refl
 
-entered_is : (s : ChipState) (source : ℕ) → chip_entered s source ≡ Onward (Stood s.pc s.sp ∷ entry_singles s source) (entered_state s source)
+entered_is : (s : ChipState) (source : ℕ)
+    → chip_entered s source ≡ Onward (Stood s.pc s.sp ∷ entry_singles s source) (entered_state s source)
 unfolding chip_entered
 entered_is s source = ap (λ to. let outcome : Outcome = Onward (Stood s.pc s.sp ∷ map (accessed s.pc) (push_writes s) ++ Went s.pc to ∷ []) (entered_state s source) in outcome)
     (serving_goes (is_high s source) (called (vector_of source) s))
@@ -149,8 +155,10 @@ entry_shown s coming_so shows item there =
           (edge, Contains-append_right pushes (edge ∷ []) edge (in_first edge []), (refl, refl))
     ]
 
-pub entry_lands : Laws → (setting : Setting) (calls : List ℕ) (frame : Frame) (a : Known) (s : ChipState) (first : Option ChipState) (found : Option Instr) (items_so : List Single) (t : ChipState)
-    → IsUnder (is_interrupt frame) a s first → (coming_so : Coming) → ComesSo a s coming_so → ◌≡◌ {A = Outcome} (Onward items_so t) (chip_entered s coming_so.source)
+pub entry_lands : Laws
+    → (setting : Setting) (calls : List ℕ) (frame : Frame) (a : Known) (s : ChipState) (first : Option ChipState) (found : Option Instr) (items_so : List Single) (t : ChipState)
+    → IsUnder (is_interrupt frame) a s first → (coming_so : Coming) → ComesSo a s coming_so
+    → ◌≡◌ {A = Outcome} (Onward items_so t) (chip_entered s coming_so.source)
     → Lands (mcs51_machine setting.image) (mcs51_analysis setting) Covers (At s.pc calls frame) (work_at known_joined (mcs51_flow setting) s.pc calls frame a found) s first items_so t
 entry_lands laws setting calls frame a s first found items_so t under coming_so so is =
     let source = coming_so.source in

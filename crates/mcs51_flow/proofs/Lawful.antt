@@ -57,8 +57,10 @@ under : (pc : ℕ) (calls : List ℕ) (frame : Frame) (a : Known) (s : ChipState
     → HasChipForm (At pc calls frame) a → Covers (At pc calls frame) a s first → IsUnder (is_interrupt frame) a s first
 under pc calls frame a s first form covers = record { base = framed_by frame first covers.2; form = form.1; holds = covers.1 }
 
-wild_told : Laws → (setting : Setting) → IsSetting setting → (node : Node) (a : Known) (s : ChipState) (first : Option ChipState) (why : Leaving) → IsLocation node
-    → HasChipForm node a → Covers node a s first → StepsTo setting.image s (Wild why) → IsTold (work_of known_joined (mcs51_flow setting) (One node) a None) why
+wild_told : Laws → (setting : Setting) → IsSetting setting
+    → (node : Node) (a : Known) (s : ChipState) (first : Option ChipState) (why : Leaving) → IsLocation node
+    → HasChipForm node a → Covers node a s first → StepsTo setting.image s (Wild why)
+    → IsTold (work_of known_joined (mcs51_flow setting) (One node) a None) why
 wild_told laws setting so (At pc calls frame) a s first why location form covers (choices, cause, left, step, is) =
     let image = setting.image in
     let work = λ (at : ℕ). work_at known_joined (mcs51_flow setting) at calls frame a (fetched image at) in
@@ -66,7 +68,8 @@ wild_told laws setting so (At pc calls frame) a s first why location form covers
     (told setting calls frame a s first cause (comes laws image so.program (is_interrupt frame) a s first (Leaves cause) (under pc calls frame a s first form covers) choices left step)))
 wild_told laws setting so (Exit pc frame) a s first why location form covers step = absurd location
 
-lands_by : Laws → (setting : Setting) → IsSetting setting → (calls : List ℕ) (frame : Frame) (a : Known) (s : ChipState) (first : Option ChipState) (items_so : List Single) (t : ChipState)
+lands_by : Laws → (setting : Setting) → IsSetting setting
+    → (calls : List ℕ) (frame : Frame) (a : Known) (s : ChipState) (first : Option ChipState) (items_so : List Single) (t : ChipState)
     → IsUnder (is_interrupt frame) a s first → StandsIn frame first → Comes setting.image (is_interrupt frame) a s first (Onward items_so t)
     → (work_at known_joined (mcs51_flow setting) s.pc calls frame a (fetched setting.image s.pc)).opens ≡ []
     → Lands (mcs51_machine setting.image) (mcs51_analysis setting) Covers (At s.pc calls frame) (work_at known_joined (mcs51_flow setting) s.pc calls frame a (fetched setting.image s.pc)) s first items_so t
@@ -79,8 +82,11 @@ lands_by laws setting so calls frame a s first items_so t stands in_frame (ran i
     (run_lands laws setting calls frame a s first instr_so effect at items_so t (sym (ap (λ r. (work r).opens) found) ∙ none) is)
 lands_by laws setting so calls frame a s first items_so t stands in_frame (refused refusal found is) none = absurd (cc)
 
-lands : Laws → (setting : Setting) → IsSetting setting → (node : Node) (a : Known) (s : ChipState) (first : Option ChipState) (items_so : List Single) (t : ChipState) → IsLocation node
-    → HasChipForm node a → Covers node a s first → StepsTo setting.image s (Next items_so t) → (work_of known_joined (mcs51_flow setting) (One node) a None).opens ≡ []
+lands : Laws → (setting : Setting) → IsSetting setting
+    → (node : Node) (a : Known) (s : ChipState) (first : Option ChipState) (items_so : List Single) (t : ChipState)
+    → IsLocation node
+    → HasChipForm node a → Covers node a s first → StepsTo setting.image s (Next items_so t)
+    → (work_of known_joined (mcs51_flow setting) (One node) a None).opens ≡ []
     → Lands (mcs51_machine setting.image) (mcs51_analysis setting) Covers node (work_of known_joined (mcs51_flow setting) (One node) a None) s first items_so t
 lands laws setting so (At pc calls frame) a s first items_so t location form covers (choices, left, step) none =
     let image = setting.image in
@@ -93,7 +99,8 @@ lands laws setting so (Exit pc frame) a s first items_so t location form covers 
 
 -- RETURNS
 
-returns_hold : Laws → (setting : Setting) → ReturnsHold (mcs51_machine setting.image) (mcs51_analysis setting) Covers known_joined (mcs51_flow setting)
+returns_hold : Laws → (setting : Setting)
+    → ReturnsHold (mcs51_machine setting.image) (mcs51_analysis setting) Covers known_joined (mcs51_flow setting)
 unfolding mcs51_machine mcs51_analysis
 returns_hold laws setting = record {
   entry = exit_entered;
@@ -119,7 +126,8 @@ following_below : (pc : ℕ) (instr_so : Instr) → following pc instr_so < 6553
 following_below pc instr_so = let len = length_of instr_so in let below : (pc + len) % 65536 < 65536 = omega arith in below
 
 module _ (laws : Laws) (setting : Setting) (so : IsSetting setting) where
-  onward_known : (pc : ℕ) (frame : Frame) (a : Known) → IsKnown (is_interrupt frame) a → (instr_so : Instr) → fetched setting.image pc ≡ Some instr_so
+  onward_known : (pc : ℕ) (frame : Frame) (a : Known) → IsKnown (is_interrupt frame) a → (instr_so : Instr)
+      → fetched setting.image pc ≡ Some instr_so
       → IsOnward IsAddress (IsKnown (is_interrupt frame)) ((mcs51_flow setting).followed frame a pc instr_so).onward
   onward_known pc frame a form instr_so is =
       let framed = is_interrupt frame in
@@ -131,7 +139,8 @@ module _ (laws : Laws) (setting : Setting) (so : IsSetting setting) where
   entry_of frame a instr_so h =
       (laws.returns.base (is_interrupt frame) frame a (subst (λ (i : Instr). leaves_frame frame a i ≡ true) (is_return instr_so frame a h) h)).1
 
-  forms_posts : (pc : ℕ) (calls : List ℕ) (frame : Frame) (a : Known) → HasChipForm (At pc calls frame) a → FormsPosts (mcs51_analysis setting) known_joined (mcs51_flow setting) pc calls frame a
+  forms_posts : (pc : ℕ) (calls : List ℕ) (frame : Frame) (a : Known) → HasChipForm (At pc calls frame) a
+      → FormsPosts (mcs51_analysis setting) known_joined (mcs51_flow setting) pc calls frame a
   unfolding mcs51_analysis
   forms_posts pc calls frame a form =
       let framed = is_interrupt frame in

@@ -57,51 +57,65 @@ pub record States : Type 0 where
   pub along : (a b c : Known) → known_within a b ≡ true → known_within b c ≡ true → known_within a c ≡ true
   pub join_held : (framed : Bool) (a b : Known) → IsKnown framed a → IsKnown framed b → known_within a (known_joined a b) ≡ true
   pub join_new : (framed : Bool) (a b : Known) → IsKnown framed a → IsKnown framed b → known_within b (known_joined a b) ≡ true
-  pub widen_held : (framed : Bool) (marks : List ℕ) → AreMarks 256 marks → (a b : Known) → IsKnown framed a → IsKnown framed b → known_within a (known_widened marks a b) ≡ true
-  pub widen_new : (framed : Bool) (marks : List ℕ) → AreMarks 256 marks → (a b : Known) → IsKnown framed a → IsKnown framed b → known_within b (known_widened marks a b) ≡ true
+  pub widen_held : (framed : Bool) (marks : List ℕ) → AreMarks 256 marks → (a b : Known) → IsKnown framed a
+      → IsKnown framed b → known_within a (known_widened marks a b) ≡ true
+  pub widen_new : (framed : Bool) (marks : List ℕ) → AreMarks 256 marks → (a b : Known) → IsKnown framed a
+      → IsKnown framed b → known_within b (known_widened marks a b) ≡ true
   pub greatest : (framed : Bool) (a : Known) → IsKnown framed a → known_within a (top_known framed) ≡ true
   pub first_form : (framed : Bool) → IsKnown framed first_known
   pub top_form : (framed : Bool) → IsKnown framed (top_known framed)
   pub join_form : (framed : Bool) (a b : Known) → IsKnown framed a → IsKnown framed b → IsKnown framed (known_joined a b)
-  pub widen_form : (framed : Bool) (marks : List ℕ) → AreMarks 256 marks → (a b : Known) → IsKnown framed a → IsKnown framed b → IsKnown framed (known_widened marks a b)
-  pub parts : (a b : Known) (s : ChipState) (first : Option ChipState) → known_within a b ≡ true → HoldsOfParts a s first → HoldsOfParts b s first
-  pub more : (node : Node) (a b : Known) (s : ChipState) (first : Option ChipState) → known_within a b ≡ true → Covers node a s first → Covers node b s first
+  pub widen_form : (framed : Bool) (marks : List ℕ) → AreMarks 256 marks → (a b : Known) → IsKnown framed a
+      → IsKnown framed b → IsKnown framed (known_widened marks a b)
+  pub parts : (a b : Known) (s : ChipState) (first : Option ChipState) → known_within a b ≡ true
+      → HoldsOfParts a s first → HoldsOfParts b s first
+  pub more : (node : Node) (a b : Known) (s : ChipState) (first : Option ChipState) → known_within a b ≡ true
+      → Covers node a s first → Covers node b s first
   pub reset : (s : ChipState) → IsReset s → Covers (At 0 [] Base) first_known s None
 
 -- the entries of interrupts
 pub record Entries : Type 0 where
-  pub comes : (framed : Bool) (a : Known) (s : ChipState) (first : Option ChipState) (source : ℕ) → IsUnder framed a s first → Contains (coming s) source
+  pub comes : (framed : Bool) (a : Known) (s : ChipState) (first : Option ChipState) (source : ℕ)
+      → IsUnder framed a s first → Contains (coming s) source
       → (coming_so : Coming) × (coming_so.source ≡ source) × ComesSo a s coming_so
-  pub covered : (framed : Bool) (a : Known) (s : ChipState) (first : Option ChipState) (coming_so : Coming) → IsUnder framed a s first → ComesSo a s coming_so
+  pub covered : (framed : Bool) (a : Known) (s : ChipState) (first : Option ChipState) (coming_so : Coming)
+      → IsUnder framed a s first → ComesSo a s coming_so
       → Covers (At (vector_of coming_so.source) [] (frame_of_coming coming_so)) (entered_known a s.pc coming_so)
       (serving (is_high s coming_so.source) (called (vector_of coming_so.source) s)) (Some s)
-  pub shown : (framed : Bool) (a : Known) (s : ChipState) (first : Option ChipState) (coming_so : Coming) → IsUnder framed a s first → ComesSo a s coming_so
+  pub shown : (framed : Bool) (a : Known) (s : ChipState) (first : Option ChipState) (coming_so : Coming)
+      → IsUnder framed a s first → ComesSo a s coming_so
       → AreShown (entry_accesses s.pc coming_so) s.pc (push_writes s)
   pub form : (framed : Bool) (a : Known) (pc : ℕ) (coming_so : Coming) → IsKnown framed a → pc < 65536 → Contains (comings_of a) coming_so
       → IsKnown true (entered_known a pc coming_so)
-  pub frame : (framed : Bool) (a : Known) (coming_so : Coming) → IsKnown framed a → Contains (comings_of a) coming_so → IsFrame (frame_of_coming coming_so)
+  pub frame : (framed : Bool) (a : Known) (coming_so : Coming) → IsKnown framed a → Contains (comings_of a) coming_so
+      → IsFrame (frame_of_coming coming_so)
   pub below : (a : Known) (coming_so : Coming) → Contains (comings_of a) coming_so → coming_so.source < 6
 
 -- returns from interrupts
 pub record Returns : Type 0 where
-  pub back : (framed : Bool) (a : Known) (s : ChipState) (first : Option ChipState) (frame : Frame) → IsUnder framed a s first → StandsIn frame first
+  pub back : (framed : Bool) (a : Known) (s : ChipState) (first : Option ChipState) (frame : Frame)
+      → IsUnder framed a s first → StandsIn frame first
       → goes_back framed frame a ≡ true → GoesOn frame (level_ended (returned s)) first
   pub base : (framed : Bool) (frame : Frame) (a : Known) → goes_back framed frame a ≡ true → (is_interrupt frame ≡ true) × HasEntry frame
 
 -- where an interrupt came
 pub record Resumptions : Type 0 where
-  pub covers : (framed : Bool) (a exit : Known) (f t : ChipState) (first : Option ChipState) (vector sp level : ℕ) → IsUnder framed a f first → IsUnder true exit t (Some f)
+  pub covers : (framed : Bool) (a exit : Known) (f t : ChipState) (first : Option ChipState) (vector sp level : ℕ)
+      → IsUnder framed a f first → IsUnder true exit t (Some f)
       → GoesOn (Irq vector (Some sp) level) t (Some f) → IsUnder framed (resumed_known framed a f.pc sp exit) t first
-  pub has : (a : Known) (f : ChipState) (first : Option ChipState) (sp : ℕ) → HoldsOf a f first → CameAt (Some sp) f → is_in 256 a.sp sp ≡ true
+  pub has : (a : Known) (f : ChipState) (first : Option ChipState) (sp : ℕ) → HoldsOf a f first → CameAt (Some sp) f
+      → is_in 256 a.sp sp ≡ true
   pub form : (framed : Bool) (a exit : Known) (pc sp : ℕ) → IsKnown framed a → IsKnown true exit → pc < 65536 → sp < 256
       → IsKnown framed (resumed_known framed a pc sp exit)
 
 -- instructions
 pub record Instructions : Type 0 where
-  pub runs : (framed : Bool) (a : Known) (s : ChipState) (first : Option ChipState) (image : List (Option ℕ)) (pc : ℕ) (instr : Instr) → IsUnder framed a s first → IsInstr instr
+  pub runs : (framed : Bool) (a : Known) (s : ChipState) (first : Option ChipState) (image : List (Option ℕ)) (pc : ℕ) (instr : Instr)
+      → IsUnder framed a s first → IsInstr instr
       → All IsByte image
       → Gives (RunsSo framed first pc (ran_of image framed pc a instr) (going_to (following pc instr) s)) (effect_of image (going_to (following pc instr) s) instr)
-  pub form : (framed : Bool) (a : Known) (image : List (Option ℕ)) (pc : ℕ) (instr : Instr) → IsKnown framed a → IsInstr instr → All IsByte image
+  pub form : (framed : Bool) (a : Known) (image : List (Option ℕ)) (pc : ℕ) (instr : Instr) → IsKnown framed a
+      → IsInstr instr → All IsByte image
       → IsWay framed (ran_of image framed pc a instr).way
 
 pub record Laws : Type 0 where

@@ -20,10 +20,12 @@ some_form : (framed : Bool) (way : Option Known) → ((a : Known) → way ≡ So
 some_form framed None each = tt
 some_form framed (Some a) each = each a refl
 
-both_ways : (framed : Bool) (next rel : ℕ) (ways : Ways) → AreWays framed ways → IsWay framed (Goes (relative_target next rel) ways.on ways.jumped)
+both_ways : (framed : Bool) (next rel : ℕ) (ways : Ways) → AreWays framed ways
+    → IsWay framed (Goes (relative_target next rel) ways.on ways.jumped)
 both_ways framed next rel ways are = (target_below next rel, some_form framed ways.on are.on, some_form framed ways.jumped are.jumped)
 
-way_form : (laws : Premises) (framed : Bool) (a : Known) (image : List (Option ℕ)) (pc next : ℕ) (instr : Instr) → next < 65536 → IsKnown framed a
+way_form : (laws : Premises) (framed : Bool) (a : Known) (image : List (Option ℕ)) (pc next : ℕ) (instr : Instr)
+    → next < 65536 → IsKnown framed a
     → IsInstr instr → All IsImageByte image
     → IsWay framed (ran_from image framed pc next a instr).way
 unfolding ran_from items_of targets_of behind_of
@@ -67,6 +69,7 @@ way_form laws framed a image pc next (Pop direct) small form is bytes = ((laws.k
 way_form laws framed a image pc next (Exchange m) small form is bytes = ((laws.known.sets.single 65536 next small).0, laws.move_forms.exchange framed a m form is)
 way_form laws framed a image pc next (ExchangeDigit i) small form is bytes = ((laws.known.sets.single 65536 next small).0, laws.move_forms.exchange_digit framed a i form)
 
-pub instruction_form : (laws : Premises) (framed : Bool) (a : Known) (image : List (Option ℕ)) (pc : ℕ) (instr : Instr) → IsKnown framed a → IsInstr instr → All IsImageByte image
+pub instruction_form : (laws : Premises) (framed : Bool) (a : Known) (image : List (Option ℕ)) (pc : ℕ) (instr : Instr)
+    → IsKnown framed a → IsInstr instr → All IsImageByte image
     → IsWay framed (ran_of image framed pc a instr).way
 instruction_form laws framed a image pc instr form is bytes = way_form laws framed a image pc (following pc instr) instr (omega arith) form is bytes

@@ -67,7 +67,8 @@ return_way : (image : List (Option ℕ)) (framed : Bool) (pc : ℕ) (a : Known)
 unfolding ran_from items_of targets_of behind_of
 return_way image framed pc a = refl
 
-pub return_lands : (image : List (Option ℕ)) (frame : Frame) (pc : ℕ) (a : Known) (instr_so : Instr) (target : ℕ) (on jumped : Option Known) → instr_so ≡ instr.ReturnFromInterrupt
+pub return_lands : (image : List (Option ℕ)) (frame : Frame) (pc : ℕ) (a : Known) (instr_so : Instr) (target : ℕ) (on jumped : Option Known)
+    → instr_so ≡ instr.ReturnFromInterrupt
     → (ran_of image (is_interrupt frame) pc a instr_so).way ≡ Goes target on jumped → ⊥
 return_lands image frame pc a instr_so target on jumped is goes =
     let same = sym (return_way image (is_interrupt frame) pc a) ∙ sym (ap (λ (i : Instr). (ran_of image (is_interrupt frame) pc a i).way) is) ∙ goes in absurd (cc)
@@ -82,8 +83,11 @@ return_effect image s effect (choices, rest, does) =
     ap (λ (e : Effect). e.1) (sym (value_is left effect choices rest does))
 
 -- the state behind it goes on where the interrupt came
-pub return_goes : Laws → (image : List (Option ℕ)) (frame : Frame) (a : Known) (s : ChipState) (first : Option ChipState) (instr_so : Instr) (effect : Effect) → instr_so ≡ instr.ReturnFromInterrupt
-    → IsUnder (is_interrupt frame) a s first → StandsIn frame first → leaves_frame frame a instr_so ≡ true → MayDo image s instr_so effect → GoesOn frame effect.1 first
+pub return_goes : Laws
+    → (image : List (Option ℕ)) (frame : Frame) (a : Known) (s : ChipState) (first : Option ChipState) (instr_so : Instr) (effect : Effect)
+    → instr_so ≡ instr.ReturnFromInterrupt
+    → IsUnder (is_interrupt frame) a s first → StandsIn frame first → leaves_frame frame a instr_so ≡ true
+    → MayDo image s instr_so effect → GoesOn frame effect.1 first
 return_goes laws image frame a s first instr_so effect is under stands_so back may =
     let goes = subst (λ (i : Instr). leaves_frame frame a i ≡ true) is back in
     subst (λ t. GoesOn frame t first) (sym (return_effect image s effect (subst (λ (i : Instr). MayDo image s i effect) is may)))

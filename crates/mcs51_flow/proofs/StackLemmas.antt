@@ -70,7 +70,8 @@ update_bytes : (pc : ℕ) (a : Known) (m : Memory) → AreBytely (update_items p
 update_bytes pc a m = joined (address_accesses pc a m) _ (address_bytes pc a m) (one_access pc false _, (one_access pc true _, tt))
 
 -- behind other accesses one byte is read, and another one written
-moved_bytes : (pc : ℕ) (before : List Item) (from to : Addresses) → AreBytely before → AreBytely (before ++ read_at pc from ++ write_at pc to)
+moved_bytes : (pc : ℕ) (before : List Item) (from to : Addresses) → AreBytely before
+    → AreBytely (before ++ read_at pc from ++ write_at pc to)
 moved_bytes pc before from to bytes =
     joined (before ++ read_at pc from) (write_at pc to) (joined before (read_at pc from) bytes (one_access pc false from, tt))
     (one_access pc true to, tt)
@@ -84,7 +85,8 @@ bit_bytes pc test.Set bit jumped = (one_access pc false _, tt)
 bit_bytes pc test.Clear bit jumped = (one_access pc false _, tt)
 bit_bytes pc test.SetAndClear bit jumped = clearing_bytes pc bit jumped
 
-ran_bytes : (image : List (Option ℕ)) (framed : Bool) (pc next : ℕ) (a : Known) (instr : Instr) → AreBytely (ran_from image framed pc next a instr).items
+ran_bytes : (image : List (Option ℕ)) (framed : Bool) (pc next : ℕ) (a : Known) (instr : Instr)
+    → AreBytely (ran_from image framed pc next a instr).items
 unfolding ran_from items_of
 ran_bytes image framed pc next a Nop = tt
 ran_bytes image framed pc next a (AbsoluteJump target) = tt

@@ -51,16 +51,19 @@ fetching_at image pc = by_answer (decoded image pc)
 abbrev pub IsProgram : List (Option ℕ) → Type 0
 IsProgram image = IsReadUnder Mcs51 image
 
-decoded_fits : Laws → (image : List (Option ℕ)) → IsProgram image → (pc len : ℕ) (instr_so : Instr) → decoded image pc ≡ Ok (instr_so, len) → IsInstr instr_so
+decoded_fits : Laws → (image : List (Option ℕ)) → IsProgram image → (pc len : ℕ) (instr_so : Instr)
+    → decoded image pc ≡ Ok (instr_so, len) → IsInstr instr_so
 decoded_fits laws image program pc len instr_so is =
     standing_is_instr image pc instr_so len (subst (Decodes image pc) is (laws.decoding.answer image pc program.size program.bytes))
 
-instr_of : Laws → (image : List (Option ℕ)) → IsProgram image → (pc : ℕ) (instr_so : Instr) (found : Option Instr) → found ≡ Some instr_so → Fetching (decoded image pc) found → IsInstr instr_so
+instr_of : Laws → (image : List (Option ℕ)) → IsProgram image → (pc : ℕ) (instr_so : Instr) (found : Option Instr)
+    → found ≡ Some instr_so → Fetching (decoded image pc) found → IsInstr instr_so
 instr_of laws image program pc instr_so found e (stands other len is same) = subst IsInstr (same_Some (sym same ∙ e)) (decoded_fits laws image program pc len other is)
 instr_of laws image program pc instr_so found e (none_stands refusal is same) = absurd (let both = sym same ∙ e in cc)
 
 -- what is found is an instruction of the table
-pub instr_found : Laws → (image : List (Option ℕ)) → IsProgram image → (pc : ℕ) (instr_so : Instr) → fetched image pc ≡ Some instr_so → IsInstr instr_so
+pub instr_found : Laws → (image : List (Option ℕ)) → IsProgram image → (pc : ℕ) (instr_so : Instr)
+    → fetched image pc ≡ Some instr_so → IsInstr instr_so
 instr_found laws image program pc instr_so found = instr_of laws image program pc instr_so (fetched image pc) found (fetching_at image pc)
 
 -- STEPS
@@ -79,7 +82,8 @@ pub data Comes (image : List (Option ℕ)) (framed : Bool) (a : Known) (s : Chip
       → outcome ≡ stepped s (RanOne s.pc (bytes_of instr_so) ∷ []) effect → Comes image framed a s first outcome
   refused : (refusal : NoInstr) → fetched image s.pc ≡ None → outcome ≡ Leaves refusal → Comes image framed a s first outcome
 
-leads : Laws → (image : List (Option ℕ)) → IsProgram image → (framed : Bool) (a : Known) (s : ChipState) (first : Option ChipState) (outcome : Outcome)
+leads : Laws → (image : List (Option ℕ)) → IsProgram image
+    → (framed : Bool) (a : Known) (s : ChipState) (first : Option ChipState) (outcome : Outcome)
     → IsUnder framed a s first → MayLead image s outcome → Comes image framed a s first outcome
 leads laws image program framed a s first outcome under (Enters source there is) =
     let (coming_so, same, so) = laws.entries.comes framed a s first source under there in
@@ -93,8 +97,10 @@ leads laws image program framed a s first outcome under (NoneStands refusal deco
     let none : decoded image s.pc ≡ Err refusal = sym (laws.decoding.one image s.pc (Err refusal) program.size program.bytes decodes) in
     refused refusal (none_found (decoded image s.pc) refusal (fetched image s.pc) none (fetching_at image s.pc)) is
 
-pub comes : Laws → (image : List (Option ℕ)) → IsProgram image → (framed : Bool) (a : Known) (s : ChipState) (first : Option ChipState) (outcome : Outcome)
-    → IsUnder framed a s first → (choices left : List ℕ) → step_of image s choices ≡ Some (outcome, left) → Comes image framed a s first outcome
+pub comes : Laws → (image : List (Option ℕ)) → IsProgram image
+    → (framed : Bool) (a : Known) (s : ChipState) (first : Option ChipState) (outcome : Outcome)
+    → IsUnder framed a s first → (choices left : List ℕ) → step_of image s choices ≡ Some (outcome, left)
+    → Comes image framed a s first outcome
 comes laws image program framed a s first outcome under choices left step =
     leads laws image program framed a s first outcome under ((laws.steps.lead image s program.size program.bytes).each choices left outcome step)
 
@@ -116,7 +122,8 @@ told setting calls frame a s first refusal (refused other found is) =
 
 -- OPENS BREAK THEIR LIMITS
 
-standing_of : Laws → (image : List (Option ℕ)) → IsProgram image → (pc : ℕ) (instr_so : Instr) (found : Option Instr) → found ≡ Some instr_so → Fetching (decoded image pc) found
+standing_of : Laws → (image : List (Option ℕ)) → IsProgram image → (pc : ℕ) (instr_so : Instr) (found : Option Instr)
+    → found ≡ Some instr_so → Fetching (decoded image pc) found
     → (len : ℕ) × Stands image pc instr_so len
 standing_of laws image program pc instr_so found e (stands other len is same) =
     (len, subst (Decodes image pc) (is ∙ ap (λ (i : Instr). let answer : Result (Instr × ℕ) NoInstr = Ok (i, len) in answer) (same_Some (sym same ∙ e))) (laws.decoding.answer image pc program.size program.bytes))

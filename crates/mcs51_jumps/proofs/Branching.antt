@@ -10,7 +10,8 @@ use Rattle.mcs51_state.specs.Doing.{Goes, GoesOn, Jumps}
 use Rattle.mcs51_jumps.specs.Premises.{Premises}
 
 -- the program counter doesn't count
-moved : (laws : Premises) (framed : Bool) (first : Option ChipState) (behind : Known) (t : ChipState) (pc : ℕ) → pc < 65536 → IsUnder framed behind t first
+moved : (laws : Premises) (framed : Bool) (first : Option ChipState) (behind : Known) (t : ChipState) (pc : ℕ)
+    → pc < 65536 → IsUnder framed behind t first
     → IsUnder framed behind (going_to pc t) first
 moved laws framed first behind t pc small under = laws.stores.writes.counter framed first pc small behind t under
 

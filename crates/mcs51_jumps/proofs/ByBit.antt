@@ -33,12 +33,14 @@ use Rattle.mcs51_jumps.proofs.Numbers.{bit_place, bit_small, bit_so, clear_bit, 
 
 -- WHERE A BIT IS SO
 
-so : (laws : Premises) (framed : Bool) (a : Known) (s : ChipState) (first : Option ChipState) (bit x : ℕ) (flag : Bool) → IsUnder framed a s first → bit < 256
+so : (laws : Premises) (framed : Bool) (a : Known) (s : ChipState) (first : Option ChipState) (bit x : ℕ) (flag : Bool)
+    → IsUnder framed a s first → bit < 256
     → MayRead s (bit_address bit) x
     → bit_at x (bit % 8) ≡ bit_of flag → (way : Known) × (where_bit bit flag a ≡ Some way) × IsUnder framed way s first
 so laws framed a s first bit x flag under small may is = laws.branch.bits.way framed a s first (bit_address bit) x (bit % 8) flag under (bit_place bit small) may (place_small bit) is
 
-so_form : (laws : Premises) (framed : Bool) (a way : Known) (bit : ℕ) (flag : Bool) → IsKnown framed a → bit < 256 → where_bit bit flag a ≡ Some way → IsKnown framed way
+so_form : (laws : Premises) (framed : Bool) (a way : Known) (bit : ℕ) (flag : Bool) → IsKnown framed a → bit < 256
+    → where_bit bit flag a ≡ Some way → IsKnown framed way
 so_form laws framed a way bit flag form small e = laws.branch.bits.form framed a way (bit_address bit) (bit % 8) flag form (bit_place bit small) (place_small bit) e
 
 read_shown : (laws : Premises) (pc bit : ℕ) → bit < 256 → AreShown (read_of pc bit) pc (reads (bit_address bit))
@@ -67,12 +69,14 @@ update_shown : (laws : Premises) (pc bit : ℕ) (jumped : Option Known) (way : K
 update_shown laws pc bit None way small e = absurd (cc)
 update_shown laws pc bit (Some behind) way small e = laws.operands.sums.update pc (bit_addresses bit) (bit_address bit) (laws.operands.stands.bit bit small).0 (laws.operands.stands.bit bit small).1
 
-test_shown : (laws : Premises) (pc bit : ℕ) (jumped : Option Known) → bit < 256 → AreShown (clearing_items pc bit jumped) pc (reads (bit_address bit))
+test_shown : (laws : Premises) (pc bit : ℕ) (jumped : Option Known) → bit < 256
+    → AreShown (clearing_items pc bit jumped) pc (reads (bit_address bit))
 test_shown laws pc bit None small = read_shown laws pc bit small
 test_shown laws pc bit (Some behind) small =
     laws.operands.sums.both (read_of pc bit) (write_at pc (bit_addresses bit)) pc (reads (bit_address bit)) [] (read_shown laws pc bit small) (laws.operands.sums.none (write_at pc (bit_addresses bit)) pc)
 
-cleared_so : (laws : Premises) (framed : Bool) (a : Known) (s : ChipState) (first : Option ChipState) (pc bit rel x : ℕ) → IsUnder framed a s first → bit < 256
+cleared_so : (laws : Premises) (framed : Bool) (a : Known) (s : ChipState) (first : Option ChipState) (pc bit rel x : ℕ)
+    → IsUnder framed a s first → bit < 256
     → MayRead s (bit_address bit) x
     → GoesSo framed first (clearing_items pc bit (where_cleared framed bit a)) pc (relative_target s.pc rel) (where_bit bit false a) (where_cleared framed bit a) s (cleared s (bit_address bit) (bit % 8) rel x)
 cleared_so laws framed a s first pc bit rel x under small may =
@@ -92,7 +96,8 @@ cleared_so laws framed a s first pc bit rel x under small may =
     (λ e. let (way, tested, there) = so laws framed a s first bit x false under small may (not_one v (bit_small x (bit % 8)) e) in
     record { shown = test_shown laws pc bit jumped small; goes = goes_on laws framed first (where_bit bit false a) jumped way rel s s tested refl there })
 
-clearing_does : (laws : Premises) (framed : Bool) (a : Known) (s : ChipState) (first : Option ChipState) (pc bit rel : ℕ) → IsUnder framed a s first → bit < 256
+clearing_does : (laws : Premises) (framed : Bool) (a : Known) (s : ChipState) (first : Option ChipState) (pc bit rel : ℕ)
+    → IsUnder framed a s first → bit < 256
     → Gives (GoesSo framed first (clearing_items pc bit (where_cleared framed bit a)) pc (relative_target s.pc rel) (where_bit bit false a) (where_cleared framed bit a) s)
     (jumping_on_bit s SetAndClear (bit_address bit) (bit % 8) rel)
 clearing_does laws framed a s first pc bit rel under small =
@@ -102,7 +107,8 @@ clearing_does laws framed a s first pc bit rel under small =
 
 -- EACH
 
-pub bit_does : (laws : Premises) (framed : Bool) (a : Known) (s : ChipState) (first : Option ChipState) (image : List (Option ℕ)) (pc : ℕ) (test : BitTest) (bit rel : ℕ) → IsUnder framed a s first → bit < 256
+pub bit_does : (laws : Premises) (framed : Bool) (a : Known) (s : ChipState) (first : Option ChipState) (image : List (Option ℕ)) (pc : ℕ) (test : BitTest) (bit rel : ℕ)
+    → IsUnder framed a s first → bit < 256
     → Gives (GoesSo framed first (bit_items pc test bit (ways_on_bit framed test bit a).jumped) pc (relative_target s.pc rel) (ways_on_bit framed test bit a).on (ways_on_bit framed test bit a).jumped s)
     (effect_of image s (JumpOnBit test bit rel))
 unfolding effect_of ways_on_bit
@@ -112,12 +118,14 @@ bit_does laws framed a s first image pc Clear bit rel under small =
     tested_does laws framed a s first pc bit rel Clear (λ v. v == 0) not (laws.chip.clear s (bit_address bit) (bit % 8) rel) clear_bit under small
 bit_does laws framed a s first image pc SetAndClear bit rel under small = clearing_does laws framed a s first pc bit rel under small
 
-where_cleared_form : (laws : Premises) (framed : Bool) (a way : Known) (bit : ℕ) → IsKnown framed a → bit < 256 → where_cleared framed bit a ≡ Some way → IsKnown framed way
+where_cleared_form : (laws : Premises) (framed : Bool) (a way : Known) (bit : ℕ) → IsKnown framed a → bit < 256
+    → where_cleared framed bit a ≡ Some way → IsKnown framed way
 where_cleared_form laws framed a way bit form small e =
     let (held, tested, same) = mapped (bit_changed framed Clr bit) (where_bit bit true a) way e in
     subst (IsKnown framed) same (laws.bit_forms.change_bit framed held Clr bit (so_form laws framed a held bit true form small tested) small)
 
-pub bit_form : (laws : Premises) (framed : Bool) (a : Known) (test : BitTest) (bit : ℕ) → IsKnown framed a → bit < 256 → AreWays framed (ways_on_bit framed test bit a)
+pub bit_form : (laws : Premises) (framed : Bool) (a : Known) (test : BitTest) (bit : ℕ) → IsKnown framed a → bit < 256
+    → AreWays framed (ways_on_bit framed test bit a)
 unfolding ways_on_bit
 bit_form laws framed a Set bit form small = record {
   on = λ way e. so_form laws framed a way bit false form small e;

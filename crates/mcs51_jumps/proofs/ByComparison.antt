@@ -62,7 +62,8 @@ working_does laws framed a s first pc w value rel under small =
 
 -- WITH A DIRECT BYTE
 
-direct_does : (laws : Premises) (framed : Bool) (a : Known) (s : ChipState) (first : Option ChipState) (pc direct rel : ℕ) → IsUnder framed a s first → direct < 256
+direct_does : (laws : Premises) (framed : Bool) (a : Known) (s : ChipState) (first : Option ChipState) (pc direct rel : ℕ)
+    → IsUnder framed a s first → direct < 256
     → Gives (GoesSo framed first (read_items pc a (Direct direct)) pc (relative_target s.pc rel) (Some (compared_with (read_byte framed a (direct_addresses direct)).set a))
     (Some (compared_with (read_byte framed a (direct_addresses direct)).set a)) s) (reading s [] (direct_address direct) (λ x. compared s.a x rel s))
 direct_does laws framed a s first pc direct rel under small =
@@ -81,7 +82,8 @@ direct_does laws framed a s first pc direct rel under small =
 
 -- EACH
 
-pub comparison_does : (laws : Premises) (framed : Bool) (a : Known) (s : ChipState) (first : Option ChipState) (image : List (Option ℕ)) (pc : ℕ) (comparison : Comparison) (rel : ℕ) → IsUnder framed a s first → IsComparison comparison
+pub comparison_does : (laws : Premises) (framed : Bool) (a : Known) (s : ChipState) (first : Option ChipState) (image : List (Option ℕ)) (pc : ℕ) (comparison : Comparison) (rel : ℕ)
+    → IsUnder framed a s first → IsComparison comparison
     → Gives (GoesSo framed first (comparison_items pc comparison a) pc (relative_target s.pc rel) (ways_by_comparison framed comparison a).on (ways_by_comparison framed comparison a).jumped s)
     (effect_of image s (CompareJump comparison rel))
 unfolding effect_of ways_by_comparison

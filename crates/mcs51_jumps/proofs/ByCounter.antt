@@ -52,12 +52,14 @@ lowered_does laws framed a s first pc rel at address under stands are =
           (laws.operands.formats.write_keeps address v s) (laws.stores.writes.byte framed first at address (byte_of part) v value are stands a s under);
     })
 
-counted_does : (laws : Premises) (framed : Bool) (a : Known) (s : ChipState) (first : Option ChipState) (pc rel : ℕ) (m : Memory) → IsUnder framed a s first → IsMemory m
+counted_does : (laws : Premises) (framed : Bool) (a : Known) (s : ChipState) (first : Option ChipState) (pc rel : ℕ) (m : Memory)
+    → IsUnder framed a s first → IsMemory m
     → Gives (GoesSo framed first (update_at pc (addresses_of a m)) pc (relative_target s.pc rel) (lowered_at framed (addresses_of a m) false a) (lowered_at framed (addresses_of a m) true a) s) (counting s (address_of s m) rel)
 counted_does laws framed a s first pc rel m under is =
     lowered_does laws framed a s first pc rel (addresses_of a m) (address_of s m) under (laws.operands.stands.operand framed a s first under m) (laws.operands.stands.operand_form framed a under.form m is)
 
-pub counter_does : (laws : Premises) (framed : Bool) (a : Known) (s : ChipState) (first : Option ChipState) (image : List (Option ℕ)) (pc : ℕ) (counter : Counter) (rel : ℕ) → IsUnder framed a s first → IsCounter counter
+pub counter_does : (laws : Premises) (framed : Bool) (a : Known) (s : ChipState) (first : Option ChipState) (image : List (Option ℕ)) (pc : ℕ) (counter : Counter) (rel : ℕ)
+    → IsUnder framed a s first → IsCounter counter
     → Gives (GoesSo framed first (counter_items pc counter a) pc (relative_target s.pc rel) (ways_by_counter framed counter a).on (ways_by_counter framed counter a).jumped s)
     (effect_of image s (DecrementJump counter rel))
 unfolding effect_of ways_by_counter
@@ -78,7 +80,8 @@ counted_is : (counter : Counter) → IsCounter counter → IsMemory (counted cou
 counted_is (counter.Direct direct) small = small
 counted_is (counter.Register n) is = tt
 
-pub counter_form : (laws : Premises) (framed : Bool) (a : Known) (counter : Counter) → IsKnown framed a → IsCounter counter → AreWays framed (ways_by_counter framed counter a)
+pub counter_form : (laws : Premises) (framed : Bool) (a : Known) (counter : Counter) → IsKnown framed a
+    → IsCounter counter → AreWays framed (ways_by_counter framed counter a)
 unfolding ways_by_counter
 counter_form laws framed a counter form is =
     let at = addresses_of a (counted counter) in

@@ -33,8 +33,10 @@ use Rattle.mcs51_results.specs.InstructionLaws.{InstructionLaws}
 
 -- CY IS WRITTEN
 
-carry_under : (framed : Bool) (a : Known) (s : ChipState) (first : Option ChipState) (psw : Status) (c : ℕ) → c < 2 → IsUnder framed a s first → IsStatus framed psw
-    → HoldsOfStatus (option_map suspended_of first) psw (s.psw % 128 + 128 * c) → IsUnder framed (status_written psw a) (with_carry c s) first
+carry_under : (framed : Bool) (a : Known) (s : ChipState) (first : Option ChipState) (psw : Status) (c : ℕ) → c < 2
+    → IsUnder framed a s first → IsStatus framed psw
+    → HoldsOfStatus (option_map suspended_of first) psw (s.psw % 128 + 128 * c)
+    → IsUnder framed (status_written psw a) (with_carry c s) first
 carry_under framed a s first psw c small under form holds =
     let state = carry_kept s c under.holds.state small in
     let linear = linear_stays a.linear_fact s (with_carry c s) refl refl under.holds.parts.linear_fact in
@@ -43,13 +45,15 @@ carry_under framed a s first psw c small under form holds =
 
 -- CPL, CLR AND SETB
 
-pub carry_form : (laws : InstructionLaws) (framed : Bool) (a : Known) (operation : CarryOperation) → IsKnown framed a → IsKnown framed (carry_changed operation a)
+pub carry_form : (laws : InstructionLaws) (framed : Bool) (a : Known) (operation : CarryOperation) → IsKnown framed a
+    → IsKnown framed (carry_changed operation a)
 unfolding carry_changed
 carry_form laws framed a operation form =
     let is = laws.results.bits.carry_form framed operation a.psw in
     laws.stores.forms.status framed (carry_made operation a.psw) is.bits is.entry a form
 
-pub carry_does : (laws : InstructionLaws) (framed : Bool) (a : Known) (s : ChipState) (first : Option ChipState) (image : List (Option ℕ)) (pc : ℕ) (operation : CarryOperation) → IsUnder framed a s first
+pub carry_does : (laws : InstructionLaws) (framed : Bool) (a : Known) (s : ChipState) (first : Option ChipState) (image : List (Option ℕ)) (pc : ℕ) (operation : CarryOperation)
+    → IsUnder framed a s first
     → Gives (DoesSo framed first [] pc (carry_changed operation a) s) (effect_of image s (ChangeCarry operation))
 unfolding carry_changed effect_of
 carry_does laws framed a s first image pc operation under =
@@ -63,7 +67,8 @@ carry_does laws framed a s first image pc operation under =
 
 -- ORL, ANL AND MOV
 
-pub carry_bit_form : (laws : InstructionLaws) (framed : Bool) (a : Known) (operation : CarryByBit) (bit : ℕ) → IsKnown framed a → IsKnown framed (carry_joined operation bit a)
+pub carry_bit_form : (laws : InstructionLaws) (framed : Bool) (a : Known) (operation : CarryByBit) (bit : ℕ)
+    → IsKnown framed a → IsKnown framed (carry_joined operation bit a)
 unfolding carry_joined
 carry_bit_form laws framed a operation bit form =
     let is = laws.results.bits.carry_bit_form framed operation a.psw (bit_read a bit) in
@@ -85,7 +90,8 @@ joined_leads laws framed a s first operation bit x under inside may =
           (laws.results.bits.carry_bit_form framed operation a.psw (bit_read a bit)) holds;
     }
 
-pub carry_bit_does : (laws : InstructionLaws) (framed : Bool) (a : Known) (s : ChipState) (first : Option ChipState) (image : List (Option ℕ)) (pc : ℕ) (operation : CarryByBit) (bit : ℕ) → IsUnder framed a s first → bit < 256
+pub carry_bit_does : (laws : InstructionLaws) (framed : Bool) (a : Known) (s : ChipState) (first : Option ChipState) (image : List (Option ℕ)) (pc : ℕ) (operation : CarryByBit) (bit : ℕ)
+    → IsUnder framed a s first → bit < 256
     → Gives (DoesSo framed first (read_at pc (bit_addresses bit)) pc (carry_joined operation bit a) s) (effect_of image s (CarryBit operation bit))
 unfolding effect_of
 carry_bit_does laws framed a s first image pc operation bit under inside =

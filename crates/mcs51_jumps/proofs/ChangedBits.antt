@@ -90,7 +90,8 @@ bit_form laws framed a operation bit form inside =
     (λ e. laws.stores.forms.status framed (status_with_bit operation bit a.psw) is.bits is.entry a form)
     (λ e. laws.stores.forms.byte framed (bit_addresses bit) (byte_changed framed operation bit a) at.1 byte a form)
 
-under_either : (laws : InstructionLaws) (framed : Bool) (a : Known) (s : ChipState) (first : Option ChipState) (operation : BitOperation) (bit x : ℕ) (of_status : Bool) → is_of_status bit ≡ of_status → IsUnder framed a s first
+under_either : (laws : InstructionLaws) (framed : Bool) (a : Known) (s : ChipState) (first : Option ChipState) (operation : BitOperation) (bit x : ℕ) (of_status : Bool)
+    → is_of_status bit ≡ of_status → IsUnder framed a s first
     → bit < 256 → MayRead s (bit_address bit) x
     → IsUnder framed (cond of_status (status_written (status_with_bit operation bit a.psw) a) (byte_written framed (bit_addresses bit) (byte_changed framed operation bit a) a)) (write (bit_address bit) (after operation bit s x) s) first
 under_either laws framed a s first operation bit x true is under inside may =
@@ -110,7 +111,8 @@ changed_leads laws framed a s first operation bit x under inside may = record {
   under = under_either laws framed a s first operation bit x (is_of_status bit) refl under inside may;
 }
 
-pub bit_does : (laws : InstructionLaws) (framed : Bool) (a : Known) (s : ChipState) (first : Option ChipState) (image : List (Option ℕ)) (pc : ℕ) (operation : BitOperation) (bit : ℕ) → IsUnder framed a s first → bit < 256
+pub bit_does : (laws : InstructionLaws) (framed : Bool) (a : Known) (s : ChipState) (first : Option ChipState) (image : List (Option ℕ)) (pc : ℕ) (operation : BitOperation) (bit : ℕ)
+    → IsUnder framed a s first → bit < 256
     → Gives (DoesSo framed first (update_at pc (bit_addresses bit)) pc (bit_changed framed operation bit a) s) (effect_of image s (ChangeBit operation bit))
 unfolding effect_of
 bit_does laws framed a s first image pc operation bit under inside =

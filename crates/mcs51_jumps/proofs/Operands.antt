@@ -25,11 +25,13 @@ use Rattle.mcs51_jumps.specs.Premises.{Premises}
 
 -- RAM AT ONE OF SOME ADDRESSES
 
-values_normal : (laws : Premises) (framed : Bool) (a : Known) (at : Form) → IsKnown framed a → IsNormal 256 at → IsNormal 256 (ram_values a at)
+values_normal : (laws : Premises) (framed : Bool) (a : Known) (at : Form) → IsKnown framed a → IsNormal 256 at
+    → IsNormal 256 (ram_values a at)
 unfolding read_byte
 values_normal laws framed a at form normal = (laws.operands.reads.form framed a form (InRam at) normal).normal
 
-values_have : (laws : Premises) (framed : Bool) (a : Known) (s : ChipState) (first : Option ChipState) (at : Form) (place : ℕ) → IsUnder framed a s first
+values_have : (laws : Premises) (framed : Bool) (a : Known) (s : ChipState) (first : Option ChipState) (at : Form) (place : ℕ)
+    → IsUnder framed a s first
     → IsNormal 256 at → Has 256 at place
     → Has 256 (ram_values a at) (slice_index s.ram place)
 unfolding read_byte
@@ -37,7 +39,8 @@ values_have laws framed a s first at place under normal has = (laws.operands.rea
 
 -- THE OPERAND
 
-among_is : (laws : Premises) (framed : Bool) (a : Known) (at : Form) (places : List ℕ) → IsKnown framed a → IsNormal 256 at → members 256 at ≡ places
+among_is : (laws : Premises) (framed : Bool) (a : Known) (at : Form) (places : List ℕ) → IsKnown framed a
+    → IsNormal 256 at → members 256 at ≡ places
     → IsOperand (operand_among a at places)
 among_is laws framed a at [] form normal all = values_normal laws framed a at form normal
 among_is laws framed a at (place ∷ []) form normal all =
@@ -61,7 +64,8 @@ working_normal laws framed a (Register n) form = laws.operands.stands.operand_fo
 pub operand_is : (laws : Premises) (framed : Bool) (a : Known) (w : Working) → IsKnown framed a → IsOperand (operand_at a (working_set a w))
 operand_is laws framed a w form = among_is laws framed a (working_set a w) (members 256 (working_set a w)) form (working_normal laws framed a w form) refl
 
-pub operand_has : (laws : Premises) (framed : Bool) (a : Known) (s : ChipState) (first : Option ChipState) (w : Working) (x : ℕ) → IsUnder framed a s first
+pub operand_has : (laws : Premises) (framed : Bool) (a : Known) (s : ChipState) (first : Option ChipState) (w : Working) (x : ℕ)
+    → IsUnder framed a s first
     → MayRead s (working_address s w) x
     → IsNumberOf (operand_at a (working_set a w)) s x
 operand_has laws framed a s first (Indirect i) x under may =

@@ -36,7 +36,8 @@ use Rattle.mcs51_state.specs.JoinedFacts.{any_has, any_normal}
 
 -- ONE ADDRESS
 
-byte_by : (image : List (Option ℕ)) (at : ℕ) → All IsImageByte image → (within : Bool) → ltb at (length image) ≡ within → IsImageByte (byte_at image at)
+byte_by : (image : List (Option ℕ)) (at : ℕ) → All IsImageByte image → (within : Bool) → ltb at (length image) ≡ within
+    → IsImageByte (byte_at image at)
 byte_by image at bytes true test = All-get_or IsImageByte image at None (ltb-true at (length image) test) bytes
 byte_by image at bytes false test = let past : byte_at image at ≡ None = get_or_past image at None (ltb-false at (length image) test) in rw past tt
 
@@ -56,22 +57,26 @@ code_normal laws image at bytes = set_normal laws (byte_at image at) (byte_is im
 
 -- SEVERAL ADDRESSES
 
-list_normal : (laws : InstructionLaws) (image : List (Option ℕ)) → All IsImageByte image → (list : List ℕ) → IsNormal 256 (any_of (code_set image) list)
+list_normal : (laws : InstructionLaws) (image : List (Option ℕ)) → All IsImageByte image → (list : List ℕ)
+    → IsNormal 256 (any_of (code_set image) list)
 list_normal laws image bytes = any_normal laws.known (code_set image) (λ at. code_normal laws image at bytes)
 
 or_any_normal : (laws : InstructionLaws) (many : Bool) (set : Form) → IsNormal 256 set → IsNormal 256 (cond many any_byte set)
 or_any_normal laws true set normal = laws.known.sets.whole_normal 256 (omega arith)
 or_any_normal laws false set normal = normal
 
-or_any_has : (laws : InstructionLaws) (many : Bool) (set : Form) (v : ℕ) → IsNormal 256 set → Has 256 set v → Has 256 (cond many any_byte set) v
+or_any_has : (laws : InstructionLaws) (many : Bool) (set : Form) (v : ℕ) → IsNormal 256 set → Has 256 set v
+    → Has 256 (cond many any_byte set) v
 or_any_has laws true set v normal has = laws.known.sets.whole 256 v (laws.known.sets.below 256 v set normal has)
 or_any_has laws false set v normal has = has
 
-values_normal : (laws : InstructionLaws) (image : List (Option ℕ)) (set : Form) → All IsImageByte image → IsNormal 256 (code_values image set)
+values_normal : (laws : InstructionLaws) (image : List (Option ℕ)) (set : Form) → All IsImageByte image
+    → IsNormal 256 (code_values image set)
 unfolding code_values
 values_normal laws image set bytes = or_any_normal laws (nat_lt 256 (length (members 65536 set))) (any_of (code_set image) (members 65536 set)) (list_normal laws image bytes (members 65536 set))
 
-values_have : (laws : InstructionLaws) (image : List (Option ℕ)) (set : Form) (at v : ℕ) → All IsImageByte image → Has 65536 set at → Has 256 (code_set image at) v
+values_have : (laws : InstructionLaws) (image : List (Option ℕ)) (set : Form) (at v : ℕ) → All IsImageByte image
+    → Has 65536 set at → Has 256 (code_set image at) v
     → Has 256 (code_values image set) v
 unfolding code_values
 values_have laws image set at v bytes there has =
@@ -80,7 +85,8 @@ values_have laws image set at v bytes there has =
 
 -- MOVC
 
-pub code_form : (laws : InstructionLaws) (framed : Bool) (a : Known) (image : List (Option ℕ)) (base : CodeBase) (next : ℕ) → IsKnown framed a → All IsImageByte image
+pub code_form : (laws : InstructionLaws) (framed : Bool) (a : Known) (image : List (Option ℕ)) (base : CodeBase) (next : ℕ)
+    → IsKnown framed a → All IsImageByte image
     → IsKnown framed (code_loaded image base next a)
 unfolding code_loaded
 code_form laws framed a image base next form bytes =
@@ -89,7 +95,8 @@ code_form laws framed a image base next form bytes =
 
 code_leads : (laws : InstructionLaws) (framed : Bool) (a : Known) (s : ChipState) (first : Option ChipState) (image : List (Option ℕ)) (base : CodeBase) (at x : ℕ)
     → IsUnder framed a s first → All IsImageByte image
-    → Has 65536 (code_addresses base s.pc a) at → MayReadCode (byte_at image at) x → LeadsSo framed first (code_loaded image base s.pc a) s (with_accumulator x s)
+    → Has 65536 (code_addresses base s.pc a) at → MayReadCode (byte_at image at) x
+    → LeadsSo framed first (code_loaded image base s.pc a) s (with_accumulator x s)
 unfolding code_loaded
 code_leads laws framed a s first image base at x under bytes there may =
     let addresses = code_addresses base s.pc a in
@@ -100,8 +107,10 @@ code_leads laws framed a s first image base at x under bytes there may =
       under = laws.stores.writes.accumulator framed first (byte_of set) x (plain_value framed first set x (values_normal laws image addresses bytes) has) a s under;
     }
 
-code_at : (laws : InstructionLaws) (framed : Bool) (a : Known) (s : ChipState) (first : Option ChipState) (image : List (Option ℕ)) (pc : ℕ) (base : CodeBase) (at : ℕ) → IsUnder framed a s first → All IsImageByte image
-    → Has 65536 (code_addresses base s.pc a) at → Gives (DoesSo framed first (code_items pc base s.pc a) pc (code_loaded image base s.pc a) s) (reading_code image s at)
+code_at : (laws : InstructionLaws) (framed : Bool) (a : Known) (s : ChipState) (first : Option ChipState) (image : List (Option ℕ)) (pc : ℕ) (base : CodeBase) (at : ℕ)
+    → IsUnder framed a s first → All IsImageByte image
+    → Has 65536 (code_addresses base s.pc a) at
+    → Gives (DoesSo framed first (code_items pc base s.pc a) pc (code_loaded image base s.pc a) s) (reading_code image s at)
 code_at laws framed a s first image pc base at under bytes there =
     let shows : Shows (Access pc Code false 1 (W (code_addresses base s.pc a))) (accessed pc (ACode at)) = (refl, refl, refl, refl, there) in
     of_one (DoesSo framed first (code_items pc base s.pc a) pc (code_loaded image base s.pc a) s) (MayReadCode (byte_at image at)) (λ x. (ACode at ∷ [], with_accumulator x s)) (reading_code image s at)

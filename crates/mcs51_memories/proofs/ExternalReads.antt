@@ -48,12 +48,14 @@ external_has laws framed a s first (Indirect i) at under (high, small, is) =
 
 -- ACCESSES
 
-register_shown : (laws : InstructionLaws) (framed : Bool) (a : Known) (s : ChipState) (first : Option ChipState) (pc : ℕ) (external : External) → IsUnder framed a s first
+register_shown : (laws : InstructionLaws) (framed : Bool) (a : Known) (s : ChipState) (first : Option ChipState) (pc : ℕ) (external : External)
+    → IsUnder framed a s first
     → AreShown (register_items pc external a) pc (external_reads s external)
 register_shown laws framed a s first pc DataPointer under = laws.operands.sums.none [] pc
 register_shown laws framed a s first pc (Indirect i) under = laws.operands.shown.pointer framed pc a s first under (At i)
 
-external_shown : (laws : InstructionLaws) (framed : Bool) (a : Known) (s : ChipState) (first : Option ChipState) (pc : ℕ) (write : Bool) (external : External) (at : ℕ) → IsUnder framed a s first → MayBeAt s external at
+external_shown : (laws : InstructionLaws) (framed : Bool) (a : Known) (s : ChipState) (first : Option ChipState) (pc : ℕ) (write : Bool) (external : External) (at : ℕ)
+    → IsUnder framed a s first → MayBeAt s external at
     → AreShown (external_items pc write external a) pc (external_reads s external ++ AnExternal write at ∷ [])
 external_shown laws framed a s first pc write external at under may =
     let item = Access pc Xram write 1 (W (external_addresses external a)) in
@@ -67,7 +69,8 @@ pub external_form : (laws : InstructionLaws) (framed : Bool) (a : Known) → IsK
 unfolding external_loaded
 external_form laws framed a form = laws.stores.forms.accumulator framed (byte_of any_byte) (any_is laws framed) a form
 
-read_leads : (laws : InstructionLaws) (framed : Bool) (a : Known) (s : ChipState) (first : Option ChipState) (x : ℕ) → IsUnder framed a s first → x < 256
+read_leads : (laws : InstructionLaws) (framed : Bool) (a : Known) (s : ChipState) (first : Option ChipState) (x : ℕ)
+    → IsUnder framed a s first → x < 256
     → LeadsSo framed first (external_loaded a) s (with_accumulator x s)
 unfolding external_loaded
 read_leads laws framed a s first x under small = record { onward = refl; under = laws.stores.writes.accumulator framed first (byte_of any_byte) x (any_value laws framed first x small) a s under }
@@ -79,7 +82,8 @@ read_so laws framed a s first pc external effect under (at, may, (x, small, same
     subst (DoesSo framed first (external_items pc false external a) pc (external_loaded a) s) (sym same)
     (record { shown = external_shown laws framed a s first pc false external at under may; leads = read_leads laws framed a s first x under small })
 
-pub external_read_does : (laws : InstructionLaws) (framed : Bool) (a : Known) (s : ChipState) (first : Option ChipState) (image : List (Option ℕ)) (pc : ℕ) (external : External) → IsUnder framed a s first
+pub external_read_does : (laws : InstructionLaws) (framed : Bool) (a : Known) (s : ChipState) (first : Option ChipState) (image : List (Option ℕ)) (pc : ℕ) (external : External)
+    → IsUnder framed a s first
     → Gives (DoesSo framed first (external_items pc false external a) pc (external_loaded a) s) (effect_of image s (ReadExternal external))
 unfolding effect_of
 external_read_does laws framed a s first image pc external under =
@@ -88,7 +92,8 @@ external_read_does laws framed a s first image pc external under =
 
 -- MOVX OF A
 
-pub external_write_does : (laws : InstructionLaws) (framed : Bool) (a : Known) (s : ChipState) (first : Option ChipState) (image : List (Option ℕ)) (pc : ℕ) (external : External) → IsUnder framed a s first
+pub external_write_does : (laws : InstructionLaws) (framed : Bool) (a : Known) (s : ChipState) (first : Option ChipState) (image : List (Option ℕ)) (pc : ℕ) (external : External)
+    → IsUnder framed a s first
     → Gives (DoesSo framed first (external_items pc true external a) pc a s) (effect_of image s (WriteExternal external))
 unfolding effect_of
 external_write_does laws framed a s first image pc external under =

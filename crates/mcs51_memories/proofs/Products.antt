@@ -29,14 +29,16 @@ use Rattle.mcs51_results.specs.InstructionLaws.{InstructionLaws}
 
 -- DPTR
 
-pub load_form : (laws : InstructionLaws) (framed : Bool) (a : Known) (value : ℕ) → IsKnown framed a → value < 65536 → IsKnown framed (pointer_loaded value a)
+pub load_form : (laws : InstructionLaws) (framed : Bool) (a : Known) (value : ℕ) → IsKnown framed a → value < 65536
+    → IsKnown framed (pointer_loaded value a)
 unfolding pointer_loaded
 load_form laws framed a value form small =
     let low = laws.known.sets.single 256 (value % 256) (omega arith) in
     let high = laws.known.sets.single 256 (value / 256) (omega (arith, small)) in
     laws.stores.forms.data_pointer framed (byte_of (single (value % 256))) (byte_of (single (value / 256))) (byte_form framed (single (value % 256)) low.0) (byte_form framed (single (value / 256)) high.0) a form
 
-load_under : (laws : InstructionLaws) (framed : Bool) (a : Known) (s : ChipState) (first : Option ChipState) (value : ℕ) → IsUnder framed a s first → value < 65536
+load_under : (laws : InstructionLaws) (framed : Bool) (a : Known) (s : ChipState) (first : Option ChipState) (value : ℕ)
+    → IsUnder framed a s first → value < 65536
     → IsUnder framed (pointer_loaded value a) (with_data_pointer value s) first
 unfolding pointer_loaded
 load_under laws framed a s first value under small =
@@ -69,7 +71,8 @@ raise_under laws framed a s first under =
     laws.stores.writes.data_pointer framed first (pointer_increased a.dpl a.dph).0 (pointer_increased a.dpl a.dph).1 ((data_pointer s + 1) % 65536)
     (record { form = is.0; holds = holds.0 }) (record { form = is.1; holds = holds.1 }) a s under
 
-pub raise_does : (laws : InstructionLaws) (framed : Bool) (a : Known) (s : ChipState) (first : Option ChipState) (image : List (Option ℕ)) (pc : ℕ) → IsUnder framed a s first
+pub raise_does : (laws : InstructionLaws) (framed : Bool) (a : Known) (s : ChipState) (first : Option ChipState) (image : List (Option ℕ)) (pc : ℕ)
+    → IsUnder framed a s first
     → Gives (DoesSo framed first [] pc (pointer_raised a) s) (effect_of image s IncrementDataPointer)
 unfolding effect_of
 raise_does laws framed a s first image pc under =
@@ -97,7 +100,8 @@ pair_form framed made a is form = let none : IsCarry None = tt in assumption (fo
 abbrev pair_state : (x y p : ℕ) → ChipState → ChipState
 pair_state x y p s = record s { a = x; b = y; psw = p }
 
-pair_under : (framed : Bool) (made : MadePair) (a : Known) (s : ChipState) (first : Option ChipState) (x y p : ℕ) → IsChipState (pair_state x y p s)
+pair_under : (framed : Bool) (made : MadePair) (a : Known) (s : ChipState) (first : Option ChipState) (x y p : ℕ)
+    → IsChipState (pair_state x y p s)
     → IsPair framed made → HoldsOfPair (option_map suspended_of first) made (pair_state x y p s)
     → IsUnder framed a s first → IsUnder framed (with_pair made a) (pair_state x y p s) first
 pair_under framed made a s first x y p state is holds under =
@@ -120,7 +124,8 @@ multiply_under laws framed a s first under =
     let holds = laws.results.products.multiplied framed (option_map suspended_of first) (pair_before a) s (before_stands framed a s first under) in
     pair_under framed made a s first (s.a * s.b % 256) (s.a * s.b / 256) (multiplied s).psw (multiplied_kept s under.holds.state) is holds under
 
-pub multiply_does : (laws : InstructionLaws) (framed : Bool) (a : Known) (s : ChipState) (first : Option ChipState) (image : List (Option ℕ)) (pc : ℕ) → IsUnder framed a s first
+pub multiply_does : (laws : InstructionLaws) (framed : Bool) (a : Known) (s : ChipState) (first : Option ChipState) (image : List (Option ℕ)) (pc : ℕ)
+    → IsUnder framed a s first
     → Gives (DoesSo framed first [] pc (multiplied_known a) s) (effect_of image s Multiply)
 unfolding effect_of
 multiply_does laws framed a s first image pc under =
@@ -133,7 +138,8 @@ unfolding divided_known
 divide_form laws framed a form = pair_form framed (divided_made a.a a.b a.psw) a (laws.results.products.divided_form framed (pair_before a) (before_form framed a form)) form
 
 divide_so : (laws : InstructionLaws) (framed : Bool) (a : Known) (s : ChipState) (first : Option ChipState) (pc : ℕ) (none : Bool) (effect : Effect)
-    → (s.b == 0) ≡ none → IsUnder framed a s first → MayDivide none s effect → HoldsOfPair (option_map suspended_of first) (divided_made a.a a.b a.psw) effect.1
+    → (s.b == 0) ≡ none → IsUnder framed a s first → MayDivide none s effect
+    → HoldsOfPair (option_map suspended_of first) (divided_made a.a a.b a.psw) effect.1
     → DoesSo framed first [] pc (with_pair (divided_made a.a a.b a.psw) a) s effect
 divide_so laws framed a s first pc true effect zero under (x, y, x_small, y_small, same) holds =
     let made = divided_made a.a a.b a.psw in
@@ -148,7 +154,8 @@ divide_so laws framed a s first pc false effect some under same holds =
     (subst (λ (e : Effect). HoldsOfPair (option_map suspended_of first) made e.1) same holds) under in
     subst (DoesSo framed first [] pc (with_pair made a) s) (sym same) (record { shown = none_shown [] pc; leads = record { onward = refl; under = behind } })
 
-pub divide_does : (laws : InstructionLaws) (framed : Bool) (a : Known) (s : ChipState) (first : Option ChipState) (image : List (Option ℕ)) (pc : ℕ) → IsUnder framed a s first
+pub divide_does : (laws : InstructionLaws) (framed : Bool) (a : Known) (s : ChipState) (first : Option ChipState) (image : List (Option ℕ)) (pc : ℕ)
+    → IsUnder framed a s first
     → Gives (DoesSo framed first [] pc (divided_known a) s) (effect_of image s Divide)
 unfolding divided_known effect_of
 divide_does laws framed a s first image pc under =

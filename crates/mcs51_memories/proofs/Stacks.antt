@@ -35,7 +35,8 @@ both_normal : (laws : InstructionLaws) (a b : Form) → IsNormal 256 a → IsNor
 both_normal laws a b normal other = laws.known.sets.join_normal 256 a b normal other
 
 -- a number or the next one
-or_raised : (laws : InstructionLaws) (sp : Form) (v option x : ℕ) → IsNormal 256 sp → Has 256 sp v → option < 2 → x ≡ (v + option) % 256 → Has 256 (join 256 sp (raised sp)) x
+or_raised : (laws : InstructionLaws) (sp : Form) (v option x : ℕ) → IsNormal 256 sp → Has 256 sp v → option < 2
+    → x ≡ (v + option) % 256 → Has 256 (join 256 sp (raised sp)) x
 or_raised laws sp v zero x normal has few is =
     let same : x ≡ v = omega (arith, is, laws.known.sets.below 256 v sp normal has) in
     subst (Has 256 (join 256 sp (raised sp))) (sym same) (laws.known.sets.join_first 256 sp (raised sp) normal (raised_normal laws.known sp normal) v has)
@@ -45,7 +46,8 @@ or_raised laws sp v (suc zero) x normal has few is =
 or_raised laws sp v (suc (suc more)) x normal has few is = absurd (omega (arith, few))
 
 -- a number or the one below
-less_has : (laws : InstructionLaws) (set : Form) (v option x : ℕ) → IsNormal 256 set → Has 256 set v → option < 2 → x ≡ (v + 256 - option) % 256 → Has 256 (or_lowered set) x
+less_has : (laws : InstructionLaws) (set : Form) (v option x : ℕ) → IsNormal 256 set → Has 256 set v → option < 2
+    → x ≡ (v + 256 - option) % 256 → Has 256 (or_lowered set) x
 less_has laws set v zero x normal has few is =
     let same : x ≡ v = omega (arith, is, laws.known.sets.below 256 v set normal has) in
     subst (Has 256 (or_lowered set)) (sym same) (laws.known.sets.join_first 256 set (lowered set) normal (lowered_normal laws.known set normal) v has)
@@ -56,11 +58,13 @@ less_has laws set v (suc (suc more)) x normal has few is = absurd (omega (arith,
 
 -- PUSH
 
-either_is : (framed : Bool) (test : Bool) (set : Form) (byte : Byte) → IsNormal 256 set → IsByte framed byte → IsByte framed (cond test (byte_of set) byte)
+either_is : (framed : Bool) (test : Bool) (set : Form) (byte : Byte) → IsNormal 256 set → IsByte framed byte
+    → IsByte framed (cond test (byte_of set) byte)
 either_is framed true set byte normal is = byte_form framed set normal
 either_is framed false set byte normal is = is
 
-pub push_form : (laws : InstructionLaws) (framed : Bool) (a : Known) (direct : ℕ) → IsKnown framed a → direct < 256 → IsKnown framed (pushed_known framed direct a)
+pub push_form : (laws : InstructionLaws) (framed : Bool) (a : Known) (direct : ℕ) → IsKnown framed a → direct < 256
+    → IsKnown framed (pushed_known framed direct a)
 unfolding pushed_known
 push_form laws framed a direct form inside =
     let at = laws.operands.stands.direct direct inside in
@@ -68,7 +72,8 @@ push_form laws framed a direct form inside =
     laws.stores.forms.push framed (pushed_byte framed direct a)
     (either_is framed (is_stack_pointer direct) (join 256 a.sp (raised a.sp)) (read_byte framed a (direct_addresses direct)) (both_normal laws a.sp (raised a.sp) form.sp (raised_normal laws.known a.sp form.sp)) byte) a form
 
-push_value : (laws : InstructionLaws) (framed : Bool) (a : Known) (s : ChipState) (first : Option ChipState) (direct x : ℕ) (test : Bool) → IsUnder framed a s first
+push_value : (laws : InstructionLaws) (framed : Bool) (a : Known) (s : ChipState) (first : Option ChipState) (direct x : ℕ) (test : Bool)
+    → IsUnder framed a s first
     → direct < 256 → MayPush test s direct x
     → IsValue framed first (cond test (byte_of (join 256 a.sp (raised a.sp))) (read_byte framed a (direct_addresses direct))) x
 push_value laws framed a s first direct x true under inside (option, few, is) =
@@ -78,7 +83,8 @@ push_value laws framed a s first direct x false under inside may =
     let at = laws.operands.stands.direct direct inside in
     read_value laws framed a s first (direct_addresses direct) (direct_address direct) x under at.0 at.1 may
 
-push_leads : (laws : InstructionLaws) (framed : Bool) (a : Known) (s : ChipState) (first : Option ChipState) (direct x : ℕ) → IsUnder framed a s first → direct < 256
+push_leads : (laws : InstructionLaws) (framed : Bool) (a : Known) (s : ChipState) (first : Option ChipState) (direct x : ℕ)
+    → IsUnder framed a s first → direct < 256
     → MayPush (direct == 0x81) s direct x
     → LeadsSo framed first (pushed_known framed direct a) s (pushed x s)
 unfolding pushed_known
@@ -87,7 +93,8 @@ push_leads laws framed a s first direct x under inside may = record {
   under = laws.stores.stack.push framed first (pushed_byte framed direct a) x (push_value laws framed a s first direct x (direct == 0x81) under inside may) a s under;
 }
 
-push_shown : (laws : InstructionLaws) (framed : Bool) (a : Known) (s : ChipState) (first : Option ChipState) (pc direct : ℕ) → IsUnder framed a s first → direct < 256
+push_shown : (laws : InstructionLaws) (framed : Bool) (a : Known) (s : ChipState) (first : Option ChipState) (pc direct : ℕ)
+    → IsUnder framed a s first → direct < 256
     → AreShown (push_items pc direct a) pc (reads (direct_address direct) ++ writes (AtRam ((s.sp + 1) % 256)))
 push_shown laws framed a s first pc direct under inside =
     let at = laws.operands.stands.direct direct inside in
@@ -105,7 +112,8 @@ push_does laws framed a s first image pc direct under inside =
 
 -- POP
 
-pub pop_form : (laws : InstructionLaws) (framed : Bool) (a : Known) (direct : ℕ) → IsKnown framed a → direct < 256 → IsKnown framed (popped_known framed direct a)
+pub pop_form : (laws : InstructionLaws) (framed : Bool) (a : Known) (direct : ℕ) → IsKnown framed a → direct < 256
+    → IsKnown framed (popped_known framed direct a)
 unfolding popped_known
 pop_form laws framed a direct form inside =
     let at = laws.operands.stands.direct direct inside in
@@ -119,7 +127,8 @@ pop_form laws framed a direct form inside =
 abbrev left_by : ChipState → (option : ℕ) → ℕ
 left_by s option = (top_of s + 256 - option) % 256
 
-pop_value : (laws : InstructionLaws) (framed : Bool) (a : Known) (s : ChipState) (first : Option ChipState) (option : ℕ) (test : Bool) → IsUnder framed a s first → IsOption test 2 option
+pop_value : (laws : InstructionLaws) (framed : Bool) (a : Known) (s : ChipState) (first : Option ChipState) (option : ℕ) (test : Bool)
+    → IsUnder framed a s first → IsOption test 2 option
     → IsValue framed first (cond test (byte_of (or_lowered (top_byte framed a).set)) (top_byte framed a)) (left_by s option)
 pop_value laws framed a s first option true under is =
     let top = top_byte framed a in
@@ -134,7 +143,8 @@ pop_value laws framed a s first option false under is =
     let same : top_of s ≡ left_by s option = omega (arith, none, small) in
     subst (IsValue framed first top) same value
 
-pop_leads : (laws : InstructionLaws) (framed : Bool) (a : Known) (s : ChipState) (first : Option ChipState) (direct option : ℕ) → IsUnder framed a s first
+pop_leads : (laws : InstructionLaws) (framed : Bool) (a : Known) (s : ChipState) (first : Option ChipState) (direct option : ℕ)
+    → IsUnder framed a s first
     → direct < 256 → IsOption (direct == 0x81) 2 option
     → LeadsSo framed first (popped_known framed direct a) s (write (direct_address direct) (left_by s option) (popped s))
 unfolding popped_known
@@ -146,7 +156,8 @@ pop_leads laws framed a s first direct option under inside is =
           (pop_value laws framed a s first option (direct == 0x81) under is) at.1 at.0 (byte_popped a) (popped s) (laws.stores.stack.pop framed first a s under);
     }
 
-pop_shown : (laws : InstructionLaws) (framed : Bool) (a : Known) (s : ChipState) (first : Option ChipState) (pc direct : ℕ) → IsUnder framed a s first → direct < 256
+pop_shown : (laws : InstructionLaws) (framed : Bool) (a : Known) (s : ChipState) (first : Option ChipState) (pc direct : ℕ)
+    → IsUnder framed a s first → direct < 256
     → AreShown (pop_items pc direct a) pc (reads (AtRam s.sp) ++ writes (direct_address direct))
 pop_shown laws framed a s first pc direct under inside =
     let at = laws.operands.stands.direct direct inside in

@@ -17,7 +17,8 @@ use Rattle.mcs51_results.specs.InstructionLaws.{InstructionLaws}
 pub any_is : (laws : InstructionLaws) (framed : Bool) → IsByte framed (byte_of any_byte)
 any_is laws framed = byte_form framed any_byte (laws.known.sets.whole_normal 256 (omega arith))
 
-pub any_value : (laws : InstructionLaws) (framed : Bool) (first : Option ChipState) (x : ℕ) → x < 256 → IsValue framed first (byte_of any_byte) x
+pub any_value : (laws : InstructionLaws) (framed : Bool) (first : Option ChipState) (x : ℕ) → x < 256
+    → IsValue framed first (byte_of any_byte) x
 any_value laws framed first x small = plain_value framed first any_byte x (laws.known.sets.whole_normal 256 (omega arith)) (laws.known.sets.whole 256 x small)
 
 pub read_value : (laws : InstructionLaws) (framed : Bool) (a : Known) (s : ChipState) (first : Option ChipState) (addresses : Addresses) (address : Address) (x : ℕ)

@@ -45,7 +45,8 @@ exchange_so laws framed a s first image pc m under is =
     (λ x may. both_lead laws framed a s first at address a.a (byte_at framed m a) s.a x under placed (accumulator_value framed a s first under)
     (read_value laws framed a s first at address x under placed may))
 
-pub exchange_form : (laws : InstructionLaws) (framed : Bool) (a : Known) (m : Memory) → IsKnown framed a → IsMemory m → IsKnown framed (exchanged framed m a)
+pub exchange_form : (laws : InstructionLaws) (framed : Bool) (a : Known) (m : Memory) → IsKnown framed a → IsMemory m
+    → IsKnown framed (exchanged framed m a)
 unfolding exchanged
 exchange_form laws framed a m form is =
     let are = laws.operands.stands.operand_form framed a form m is in
@@ -75,14 +76,16 @@ joined_has laws high low x y high_is low_is high_has low_has =
     (laws.known.bits.logic_normal 8 And high (single 240) high_is upper.0) (laws.known.bits.logic_normal 8 And low (single 15) low_is lower.0)
     (laws.known.bits.logic 8 x 240 And high (single 240) high_is upper.0 high_has upper.1) (laws.known.bits.logic 8 y 15 And low (single 15) low_is lower.0 low_has lower.1))
 
-joined_value : (laws : InstructionLaws) (framed : Bool) (first : Option ChipState) (high low : Form) (x y : ℕ) → IsNormal 256 high → IsNormal 256 low → Has 256 high x → Has 256 low y
+joined_value : (laws : InstructionLaws) (framed : Bool) (first : Option ChipState) (high low : Form) (x y : ℕ)
+    → IsNormal 256 high → IsNormal 256 low → Has 256 high x → Has 256 low y
     → IsValue framed first (byte_of (digits_joined high low)) (x / 16 * 16 + y % 16)
 joined_value laws framed first high low x y high_is low_is high_has low_has =
     plain_value framed first (digits_joined high low) (x / 16 * 16 + y % 16) (joined_normal laws high low high_is low_is) (joined_has laws high low x y high_is low_is high_has low_has)
 
 -- XCHD
 
-pub exchange_digit_so : (laws : InstructionLaws) (framed : Bool) (a : Known) (s : ChipState) (first : Option ChipState) (image : List (Option ℕ)) (pc : ℕ) (i : Pointer) → IsUnder framed a s first
+pub exchange_digit_so : (laws : InstructionLaws) (framed : Bool) (a : Known) (s : ChipState) (first : Option ChipState) (image : List (Option ℕ)) (pc : ℕ) (i : Pointer)
+    → IsUnder framed a s first
     → Gives (DoesSo framed first (update_items pc a (pointed i)) pc (digit_exchanged framed i a) s) (effect_of image s (ExchangeDigit i))
 unfolding digit_exchanged effect_of
 exchange_digit_so laws framed a s first image pc i under =
@@ -100,7 +103,8 @@ exchange_digit_so laws framed a s first image pc i under =
     (joined_value laws framed first byte.set a.a.set x s.a value.form.normal a_normal value.holds.0 a_has)
     (joined_value laws framed first a.a.set byte.set s.a x a_normal value.form.normal a_has value.holds.0))
 
-pub exchange_digit_form : (laws : InstructionLaws) (framed : Bool) (a : Known) (i : Pointer) → IsKnown framed a → IsKnown framed (digit_exchanged framed i a)
+pub exchange_digit_form : (laws : InstructionLaws) (framed : Bool) (a : Known) (i : Pointer) → IsKnown framed a
+    → IsKnown framed (digit_exchanged framed i a)
 unfolding digit_exchanged
 exchange_digit_form laws framed a i form =
     let m = pointed i in

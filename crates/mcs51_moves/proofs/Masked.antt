@@ -59,7 +59,8 @@ masked_value laws framed first done byte operand x m value are is = record {
 
 status_leads : (laws : InstructionLaws) (framed : Bool) (a : Known) (s : ChipState) (first : Option ChipState) (done : Logic) (operand : Operand) (x m : ℕ)
     → IsUnder framed a s first → AreOperands operand → IsOperand operand m
-    → MayRead s (InSfr 0xD0) x → masked done x m < 256 → LeadsSo framed first (status_written (masked_status done a.psw operand) a) s (write (InSfr 0xD0) (masked done x m) s)
+    → MayRead s (InSfr 0xD0) x → masked done x m < 256
+    → LeadsSo framed first (status_written (masked_status done a.psw operand) a) s (write (InSfr 0xD0) (masked done x m) s)
 unfolding write
 status_leads laws framed a s first done operand x m under are is may small =
     let held = status_of_known framed a under.form in
@@ -75,7 +76,8 @@ status_leads laws framed a s first done operand x m under are is may small =
 
 masked_leads : (laws : InstructionLaws) (framed : Bool) (a : Known) (s : ChipState) (first : Option ChipState) (done : Logic) (direct : ℕ) (by : Mask) (x : ℕ)
     → IsUnder framed a s first → direct < 256 → IsMask by
-    → MayRead s (direct_address direct) x → LeadsSo framed first (direct_masked framed done direct by a) s (write (direct_address direct) (masked done x (mask_value s by)) s)
+    → MayRead s (direct_address direct) x
+    → LeadsSo framed first (direct_masked framed done direct by a) s (write (direct_address direct) (masked done x (mask_value s by)) s)
 unfolding direct_masked
 masked_leads laws framed a s first done direct by x under small is may =
     let at = direct_addresses direct in
@@ -93,7 +95,8 @@ masked_leads laws framed a s first done direct by x under small is may =
     (value_small laws framed first (direct_made framed done direct by a) (masked done x m) value)))
     (λ other. written_leads laws framed a s first at (direct_address direct) (direct_made framed done direct by a) (masked done x m) under placed value)
 
-pub mask_direct_so : (laws : InstructionLaws) (framed : Bool) (a : Known) (s : ChipState) (first : Option ChipState) (image : List (Option ℕ)) (pc : ℕ) (done : Logic) (direct : ℕ) (by : Mask) → IsUnder framed a s first
+pub mask_direct_so : (laws : InstructionLaws) (framed : Bool) (a : Known) (s : ChipState) (first : Option ChipState) (image : List (Option ℕ)) (pc : ℕ) (done : Logic) (direct : ℕ) (by : Mask)
+    → IsUnder framed a s first
     → direct < 256 → IsMask by
     → Gives (DoesSo framed first (update_at pc (direct_addresses direct)) pc (direct_masked framed done direct by a) s) (effect_of image s (DirectLogic done direct by))
 unfolding effect_of
@@ -103,7 +106,8 @@ mask_direct_so laws framed a s first image pc done direct by under small is =
     (λ x. write (direct_address direct) (masked done x (mask_value s by)) s) (λ access there. absurd (omega (arith, there.1))) placed.stands placed.are
     (λ x may. masked_leads laws framed a s first done direct by x under small is may)
 
-pub mask_direct_form : (laws : InstructionLaws) (framed : Bool) (a : Known) (done : Logic) (direct : ℕ) (by : Mask) → IsKnown framed a → direct < 256 → IsMask by
+pub mask_direct_form : (laws : InstructionLaws) (framed : Bool) (a : Known) (done : Logic) (direct : ℕ) (by : Mask)
+    → IsKnown framed a → direct < 256 → IsMask by
     → IsKnown framed (direct_masked framed done direct by a)
 unfolding direct_masked
 mask_direct_form laws framed a done direct by form small is =

@@ -60,28 +60,33 @@ decrement_so laws framed a s first image pc m under is =
     change_does laws framed a s first pc m (λ x. (x + 255) % 256) (decreased (byte_at framed m a)) under is (decreased_value laws framed first (byte_at framed m a))
 
 -- a byte that is read at an operand
-read_form : (laws : InstructionLaws) (framed : Bool) (a : Known) (m : Memory) → IsKnown framed a → IsMemory m → IsByte framed (byte_at framed m a)
+read_form : (laws : InstructionLaws) (framed : Bool) (a : Known) (m : Memory) → IsKnown framed a → IsMemory m
+    → IsByte framed (byte_at framed m a)
 read_form laws framed a m form is = laws.operands.reads.form framed a form (addresses_of a m) (laws.operands.stands.operand_form framed a form m is)
 
-pub increment_form : (laws : InstructionLaws) (framed : Bool) (a : Known) (m : Memory) → IsKnown framed a → IsMemory m → IsKnown framed (incremented framed m a)
+pub increment_form : (laws : InstructionLaws) (framed : Bool) (a : Known) (m : Memory) → IsKnown framed a → IsMemory m
+    → IsKnown framed (incremented framed m a)
 unfolding incremented
 increment_form laws framed a m form is =
     memory_form laws framed a m (increased (byte_at framed m a)) form is (laws.results.changes.increased_form framed (byte_at framed m a) (read_form laws framed a m form is))
 
-pub decrement_form : (laws : InstructionLaws) (framed : Bool) (a : Known) (m : Memory) → IsKnown framed a → IsMemory m → IsKnown framed (decremented framed m a)
+pub decrement_form : (laws : InstructionLaws) (framed : Bool) (a : Known) (m : Memory) → IsKnown framed a → IsMemory m
+    → IsKnown framed (decremented framed m a)
 unfolding decremented
 decrement_form laws framed a m form is =
     memory_form laws framed a m (decreased (byte_at framed m a)) form is (laws.results.changes.decreased_form framed (byte_at framed m a) (read_form laws framed a m form is))
 
 -- MOV OF A NUMBER AND OF A
 
-pub immediate_so : (laws : InstructionLaws) (framed : Bool) (a : Known) (s : ChipState) (first : Option ChipState) (image : List (Option ℕ)) (pc : ℕ) (m : Memory) (value : ℕ) → IsUnder framed a s first → IsMemory m → value < 256
+pub immediate_so : (laws : InstructionLaws) (framed : Bool) (a : Known) (s : ChipState) (first : Option ChipState) (image : List (Option ℕ)) (pc : ℕ) (m : Memory) (value : ℕ)
+    → IsUnder framed a s first → IsMemory m → value < 256
     → Gives (DoesSo framed first (write_items pc a m) pc (immediate_moved framed m value a) s) (effect_of image s (MoveImmediate (InMemory m) value))
 unfolding immediate_moved effect_of
 immediate_so laws framed a s first image pc m value under is small =
     write_does laws framed a s first pc m (byte_of (single value)) value under is (number_value laws framed first value small)
 
-pub immediate_form : (laws : InstructionLaws) (framed : Bool) (a : Known) (m : Memory) (value : ℕ) → IsKnown framed a → IsMemory m → value < 256
+pub immediate_form : (laws : InstructionLaws) (framed : Bool) (a : Known) (m : Memory) (value : ℕ) → IsKnown framed a
+    → IsMemory m → value < 256
     → IsKnown framed (immediate_moved framed m value a)
 unfolding immediate_moved
 immediate_form laws framed a m value form is small =
@@ -93,13 +98,15 @@ pub store_so : (laws : InstructionLaws) (framed : Bool) (a : Known) (s : ChipSta
 unfolding stored effect_of
 store_so laws framed a s first image pc m under is = write_does laws framed a s first pc m a.a s.a under is (accumulator_value framed a s first under)
 
-pub store_form : (laws : InstructionLaws) (framed : Bool) (a : Known) (m : Memory) → IsKnown framed a → IsMemory m → IsKnown framed (stored framed m a)
+pub store_form : (laws : InstructionLaws) (framed : Bool) (a : Known) (m : Memory) → IsKnown framed a → IsMemory m
+    → IsKnown framed (stored framed m a)
 unfolding stored
 store_form laws framed a m form is = memory_form laws framed a m a.a form is form.a
 
 -- MOV TO AND FROM A DIRECT BYTE
 
-pub to_direct_so : (laws : InstructionLaws) (framed : Bool) (a : Known) (s : ChipState) (first : Option ChipState) (image : List (Option ℕ)) (pc to : ℕ) (from : Memory) → IsUnder framed a s first → to < 256 → IsMemory from
+pub to_direct_so : (laws : InstructionLaws) (framed : Bool) (a : Known) (s : ChipState) (first : Option ChipState) (image : List (Option ℕ)) (pc to : ℕ) (from : Memory)
+    → IsUnder framed a s first → to < 256 → IsMemory from
     → Gives (DoesSo framed first (to_direct_items pc a to from) pc (moved_to_direct framed to from a) s) (effect_of image s (MoveToDirect to from))
 unfolding moved_to_direct effect_of
 to_direct_so laws framed a s first image pc to from under small is =
@@ -111,13 +118,15 @@ to_direct_so laws framed a s first image pc to from under small is =
     (laws.operands.shown.address framed pc a s first under from) source.stands source.are target.stands target.are
     (λ x may. written_leads laws framed a s first (direct_addresses to) (direct_address to) (byte_at framed from a) x under target (read_value laws framed a s first at address x under source may))
 
-pub to_direct_form : (laws : InstructionLaws) (framed : Bool) (a : Known) (to : ℕ) (from : Memory) → IsKnown framed a → to < 256 → IsMemory from
+pub to_direct_form : (laws : InstructionLaws) (framed : Bool) (a : Known) (to : ℕ) (from : Memory) → IsKnown framed a
+    → to < 256 → IsMemory from
     → IsKnown framed (moved_to_direct framed to from a)
 unfolding moved_to_direct
 to_direct_form laws framed a to from form small is =
     laws.stores.forms.byte framed (direct_addresses to) (byte_at framed from a) (direct_placed laws to small).are (read_form laws framed a from form is) a form
 
-pub from_direct_so : (laws : InstructionLaws) (framed : Bool) (a : Known) (s : ChipState) (first : Option ChipState) (image : List (Option ℕ)) (pc : ℕ) (to : Working) (from : ℕ) → IsUnder framed a s first → from < 256
+pub from_direct_so : (laws : InstructionLaws) (framed : Bool) (a : Known) (s : ChipState) (first : Option ChipState) (image : List (Option ℕ)) (pc : ℕ) (to : Working) (from : ℕ)
+    → IsUnder framed a s first → from < 256
     → Gives (DoesSo framed first (from_direct_items pc a to from) pc (moved_from_direct framed to from a) s) (effect_of image s (MoveFromDirect to from))
 unfolding moved_from_direct effect_of
 from_direct_so laws framed a s first image pc to from under small =
@@ -129,7 +138,8 @@ from_direct_so laws framed a s first image pc to from under small =
     (laws.operands.shown.address framed pc a s first under (InWorking to)) source.stands source.are target.stands target.are
     (λ x may. written_leads laws framed a s first at address (read_byte framed a (direct_addresses from)) x under target (read_value laws framed a s first (direct_addresses from) (direct_address from) x under source may))
 
-pub from_direct_form : (laws : InstructionLaws) (framed : Bool) (a : Known) (to : Working) (from : ℕ) → IsKnown framed a → from < 256 → IsKnown framed (moved_from_direct framed to from a)
+pub from_direct_form : (laws : InstructionLaws) (framed : Bool) (a : Known) (to : Working) (from : ℕ) → IsKnown framed a
+    → from < 256 → IsKnown framed (moved_from_direct framed to from a)
 unfolding moved_from_direct
 from_direct_form laws framed a to from form small =
     memory_form laws framed a (InWorking to) (read_byte framed a (direct_addresses from)) form tt

@@ -32,7 +32,8 @@ pub record IsPlaced (at : Addresses) (address : Address) : Type 0 where
   pub stands : MayStandAt at address
   pub are : AreAddresses at
 
-pub memory_placed : (laws : InstructionLaws) (framed : Bool) (a : Known) (s : ChipState) (first : Option ChipState) (m : Memory) → IsUnder framed a s first
+pub memory_placed : (laws : InstructionLaws) (framed : Bool) (a : Known) (s : ChipState) (first : Option ChipState) (m : Memory)
+    → IsUnder framed a s first
     → IsMemory m → IsPlaced (addresses_of a m) (address_of s m)
 memory_placed laws framed a s first m under is = record { stands = laws.operands.stands.operand framed a s first under m; are = laws.operands.stands.operand_form framed a under.form m is }
 
@@ -49,18 +50,22 @@ read_value laws framed a s first at address x under placed may = record {
   holds = laws.operands.reads.byte framed a s first under at address x placed.stands placed.are may;
 }
 
-pub accumulator_value : (framed : Bool) (a : Known) (s : ChipState) (first : Option ChipState) → IsUnder framed a s first → IsValue framed first a.a s.a
+pub accumulator_value : (framed : Bool) (a : Known) (s : ChipState) (first : Option ChipState)
+    → IsUnder framed a s first → IsValue framed first a.a s.a
 accumulator_value framed a s first under = record { form = under.form.a; holds = under.holds.parts.a }
 
-pub number_value : (laws : InstructionLaws) (framed : Bool) (first : Option ChipState) (value : ℕ) → value < 256 → IsValue framed first (byte_of (single value)) value
+pub number_value : (laws : InstructionLaws) (framed : Bool) (first : Option ChipState) (value : ℕ) → value < 256
+    → IsValue framed first (byte_of (single value)) value
 number_value laws framed first value small = let one = laws.known.sets.single 256 value small in plain_value framed first (single value) value one.0 one.1
 
-pub value_small : (laws : InstructionLaws) (framed : Bool) (first : Option ChipState) (byte : Byte) (x : ℕ) → IsValue framed first byte x → x < 256
+pub value_small : (laws : InstructionLaws) (framed : Bool) (first : Option ChipState) (byte : Byte) (x : ℕ)
+    → IsValue framed first byte x → x < 256
 value_small laws framed first byte x value = laws.known.sets.below 256 x byte.set value.form.normal value.holds.0
 
 -- WRITES
 
-pub written_leads : (laws : InstructionLaws) (framed : Bool) (a : Known) (s : ChipState) (first : Option ChipState) (at : Addresses) (address : Address) (byte : Byte) (x : ℕ) → IsUnder framed a s first → IsPlaced at address
+pub written_leads : (laws : InstructionLaws) (framed : Bool) (a : Known) (s : ChipState) (first : Option ChipState) (at : Addresses) (address : Address) (byte : Byte) (x : ℕ)
+    → IsUnder framed a s first → IsPlaced at address
     → IsValue framed first byte x → LeadsSo framed first (byte_written framed at byte a) s (write address x s)
 written_leads laws framed a s first at address byte x under placed value = record {
   onward = laws.operands.formats.write_keeps address x s;
@@ -68,7 +73,8 @@ written_leads laws framed a s first at address byte x under placed value = recor
 }
 
 -- and then of the accumulator
-pub both_lead : (laws : InstructionLaws) (framed : Bool) (a : Known) (s : ChipState) (first : Option ChipState) (at : Addresses) (address : Address) (byte held : Byte) (x y : ℕ) → IsUnder framed a s first → IsPlaced at address
+pub both_lead : (laws : InstructionLaws) (framed : Bool) (a : Known) (s : ChipState) (first : Option ChipState) (at : Addresses) (address : Address) (byte held : Byte) (x y : ℕ)
+    → IsUnder framed a s first → IsPlaced at address
     → IsValue framed first byte x → IsValue framed first held y
     → LeadsSo framed first (accumulator_written held (byte_written framed at byte a)) s (with_accumulator y (write address x s))
 both_lead laws framed a s first at address byte held x y under placed value held_value =
@@ -77,13 +83,15 @@ both_lead laws framed a s first at address byte held x y under placed value held
       under = laws.stores.writes.accumulator framed first held y held_value (byte_written framed at byte a) (write address x s) one.under;
     }
 
-pub both_form : (laws : InstructionLaws) (framed : Bool) (a : Known) (at : Addresses) (byte held : Byte) → IsKnown framed a → AreAddresses at → IsByte framed byte → IsByte framed held
+pub both_form : (laws : InstructionLaws) (framed : Bool) (a : Known) (at : Addresses) (byte held : Byte)
+    → IsKnown framed a → AreAddresses at → IsByte framed byte → IsByte framed held
     → IsKnown framed (accumulator_written held (byte_written framed at byte a))
 both_form laws framed a at byte held form are is held_is =
     laws.stores.forms.accumulator framed held held_is (byte_written framed at byte a) (laws.stores.forms.byte framed at byte are is a form)
 
 -- an operand is written
-pub memory_form : (laws : InstructionLaws) (framed : Bool) (a : Known) (m : Memory) (byte : Byte) → IsKnown framed a → IsMemory m → IsByte framed byte
+pub memory_form : (laws : InstructionLaws) (framed : Bool) (a : Known) (m : Memory) (byte : Byte) → IsKnown framed a
+    → IsMemory m → IsByte framed byte
     → IsKnown framed (byte_written framed (addresses_of a m) byte a)
 memory_form laws framed a m byte form is byte_is =
     laws.stores.forms.byte framed (addresses_of a m) byte (laws.operands.stands.operand_form framed a form m is) byte_is a form

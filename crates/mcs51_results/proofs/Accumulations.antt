@@ -45,7 +45,8 @@ use Rattle.mcs51_results.proofs.StatusLemmas.{flag_is, flags_row, equal_bit, car
 -- BYTES
 
 -- of a state the accumulator's set has its number
-pub byte_is : (framed : Bool) (first : Option Suspended) (byte : Byte) (x : ℕ) → IsByte framed byte → HoldsOfByte first byte x → IsResult 256 byte.set x
+pub byte_is : (framed : Bool) (first : Option Suspended) (byte : Byte) (x : ℕ) → IsByte framed byte
+    → HoldsOfByte first byte x → IsResult 256 byte.set x
 byte_is framed first byte x form holds = record { normal = form.normal; has = holds.0 }
 
 pub plain_holds : (first : Option Suspended) (set : Form) (v : ℕ) → IsResult 256 set v → HoldsOfByte first (byte_of set) v
@@ -58,7 +59,8 @@ masked_logic logic.Orl x mask = refl
 masked_logic logic.Anl x mask = refl
 masked_logic logic.Xrl x mask = refl
 
-pub entry_holds : (laws : KnownLaws) (first : Option Suspended) (done : Logic) (operand : Operand) (entry : Option Entry) (x mask : ℕ) → IsOperand operand mask
+pub entry_holds : (laws : KnownLaws) (first : Option Suspended) (done : Logic) (operand : Operand) (entry : Option Entry) (x mask : ℕ)
+    → IsOperand operand mask
     → IsFromEntry first entry x
     → IsFromEntry first (masked_entry done operand entry) (masked done x mask)
 entry_holds laws first logic.Orl (Constant m) entry x mask (small, is) holds = rw is (laws.values.entries.or first entry x m holds)
@@ -88,7 +90,8 @@ operand_normal : (laws : KnownLaws) (operand : Operand) → AreOperands operand 
 operand_normal laws (Constant m) small = (laws.sets.single 256 m small).0
 operand_normal laws (Among set) normal = normal
 
-pub masked_form : (laws : KnownLaws) (framed : Bool) (done : Logic) (byte : Byte) (operand : Operand) → IsByte framed byte → AreOperands operand
+pub masked_form : (laws : KnownLaws) (framed : Bool) (done : Logic) (byte : Byte) (operand : Operand)
+    → IsByte framed byte → AreOperands operand
     → IsByte framed (masked_made done byte operand)
 masked_form laws framed done byte operand form are = record {
   normal = laws.bits.logic_normal 8 (bitwise done) byte.set (set_of operand) form.normal (operand_normal laws operand are);
@@ -100,7 +103,8 @@ masked_form laws framed done byte operand form are = record {
 no_carry : (x y : ℕ) → (x + y) % 256 ≡ (x + y + 0) % 256
 no_carry x y = omega arith
 
-pub accumulated_holds : (laws : KnownLaws) (framed : Bool) (first : Option Suspended) (done : Operation) (made : Made) (operand : Operand) (x : ℕ) (s : ChipState) → StandsMade framed first made s → IsOperand operand x
+pub accumulated_holds : (laws : KnownLaws) (framed : Bool) (first : Option Suspended) (done : Operation) (made : Made) (operand : Operand) (x : ℕ) (s : ChipState)
+    → StandsMade framed first made s → IsOperand operand x
     → HoldsOfMade first (accumulated_made done made.a operand made.psw) (accumulated done x s)
 accumulated_holds laws framed first Add made operand x s stands is =
     let a = byte_is framed first made.a s.a stands.form.a stands.holds.a in
@@ -129,7 +133,8 @@ accumulated_holds laws framed first Orl made operand x s stands is = record { a 
 accumulated_holds laws framed first Anl made operand x s stands is = record { a = masked_holds laws framed first logic.Anl made.a operand s.a x stands.form.a stands.holds.a is; psw = stands.holds.psw }
 accumulated_holds laws framed first Xrl made operand x s stands is = record { a = masked_holds laws framed first logic.Xrl made.a operand s.a x stands.form.a stands.holds.a is; psw = stands.holds.psw }
 
-pub accumulated_form : (laws : KnownLaws) (framed : Bool) (done : Operation) (made : Made) (operand : Operand) → IsMade framed made → AreOperands operand
+pub accumulated_form : (laws : KnownLaws) (framed : Bool) (done : Operation) (made : Made) (operand : Operand)
+    → IsMade framed made → AreOperands operand
     → IsMade framed (accumulated_made done made.a operand made.psw)
 accumulated_form laws framed Add made operand form are = record {
   a = byte_form framed (add 256 made.a.set (set_of operand)) (laws.sets.add_normal 256 made.a.set (set_of operand) form.a.normal (operand_normal laws operand are));
@@ -155,7 +160,8 @@ accumulated_form laws framed Xrl made operand form are = record { a = masked_for
 
 -- ADD OF THE ACCUMULATOR TO ITSELF
 
-twice_psw : (laws : KnownLaws) (first : Option Suspended) (set : Form) (psw : Status) (s : ChipState) → Has 256 set s.a → HoldsOfStatus first psw s.psw
+twice_psw : (laws : KnownLaws) (first : Option Suspended) (set : Form) (psw : Status) (s : ChipState) → Has 256 set s.a
+    → HoldsOfStatus first psw s.psw
     → HoldsOfStatus first (twice_flags set psw) (added s.a 0 s).psw
 twice_psw laws first (Values xs) psw s h holds =
     let none = (zero_is laws).has in
@@ -164,7 +170,8 @@ twice_psw laws first (Run p) psw s h holds =
     flagged_holds first psw s.psw (bit_of (carries 256 s.a s.a 0)) (bit_of (carries 16 s.a s.a 0)) (bit_of (differ (carries 256 s.a s.a 0) (carries 128 s.a s.a 0))) Either Either Either holds
     (flag_bit Either (carries 256 s.a s.a 0) tt) (flag_bit Either (carries 16 s.a s.a 0) tt) (flag_bit Either (differ (carries 256 s.a s.a 0) (carries 128 s.a s.a 0)) tt)
 
-pub twice_holds : (laws : KnownLaws) (framed : Bool) (first : Option Suspended) (made : Made) (s : ChipState) → StandsMade framed first made s
+pub twice_holds : (laws : KnownLaws) (framed : Bool) (first : Option Suspended) (made : Made) (s : ChipState)
+    → StandsMade framed first made s
     → HoldsOfMade first (twice_made made.a made.psw) (accumulated Add s.a s)
 twice_holds laws framed first made s stands = record {
   a = (subst (Has 256 (twice 256 made.a.set)) (no_carry s.a s.a) (laws.sets.twice 256 s.a made.a.set stands.form.a.normal stands.holds.a.0), tt);
@@ -199,7 +206,8 @@ top_bit x small = omega (arith, small)
 other_bits : (x : ℕ) → x < 256 → (255 + 256 - x) % 256 ≡ 255 - x
 other_bits x small = omega (arith, small)
 
-changed_is : (laws : KnownLaws) (done : AccumulatorOperation) (a : Form) (c h : Tri) (x carry half : ℕ) → IsResult 256 a x → IsBit c carry → IsBit h half
+changed_is : (laws : KnownLaws) (done : AccumulatorOperation) (a : Form) (c h : Tri) (x carry half : ℕ)
+    → IsResult 256 a x → IsBit c carry → IsBit h half
     → IsResult 256 (changed_set done a c h) (number_after done x carry half)
 changed_is laws Rr a c h x carry half is first second = record { normal = laws.bits.shift_normal 7 a Low is.normal; has = laws.bits.shift 7 x (x % 2) a Low is.normal is.has (sym (bit_at_lowest x)) }
 changed_is laws Rrc a c h x carry half is first second = record { normal = laws.bits.shift_normal 7 a (Put c) is.normal; has = laws.bits.shift 7 x carry a (Put c) is.normal is.has first }
@@ -228,7 +236,8 @@ low_bit x = omega arith
 high_bit : (x : ℕ) → x < 256 → x / 128 < 2
 high_bit x small = omega (arith, small)
 
-changed_psw : (laws : KnownLaws) (first : Option Suspended) (done : AccumulatorOperation) (a : Form) (psw : Status) (s : ChipState) → IsResult 256 a s.a
+changed_psw : (laws : KnownLaws) (first : Option Suspended) (done : AccumulatorOperation) (a : Form) (psw : Status) (s : ChipState)
+    → IsResult 256 a s.a
     → HoldsOfStatus first psw s.psw
     → HoldsOfStatus first (changed_flags done a psw) (changed done s).psw
 changed_psw laws first Rr a psw s is holds = holds
@@ -254,7 +263,8 @@ changed_psw laws first Da a psw s is holds =
     carried_holds first psw s.psw (bit_of (adjusted_carry s.a (carry_of s) (half_carry_of s))) t holds
     (flag_is laws flag.Adjusted s.a (carry_of s) (half_carry_of s) a (chosen c) (chosen h) is.has carry.has half.has)
 
-pub changed_holds : (laws : KnownLaws) (framed : Bool) (first : Option Suspended) (done : AccumulatorOperation) (made : Made) (s : ChipState) → StandsMade framed first made s
+pub changed_holds : (laws : KnownLaws) (framed : Bool) (first : Option Suspended) (done : AccumulatorOperation) (made : Made) (s : ChipState)
+    → StandsMade framed first made s
     → HoldsOfMade first (changed_made done made.a made.psw) (changed done s)
 changed_holds laws framed first done made s stands =
     let a = byte_is framed first made.a s.a stands.form.a stands.holds.a in
@@ -264,7 +274,8 @@ changed_holds laws framed first done made s stands =
       psw = changed_psw laws first done made.a.set made.psw s a stands.holds.psw;
     }
 
-changed_status : (framed : Bool) (done : AccumulatorOperation) (a : Form) (psw : Status) → IsStatus framed psw → IsStatus framed (changed_flags done a psw)
+changed_status : (framed : Bool) (done : AccumulatorOperation) (a : Form) (psw : Status) → IsStatus framed psw
+    → IsStatus framed (changed_flags done a psw)
 changed_status framed Rr a psw form = form
 changed_status framed Rl a psw form = form
 changed_status framed Swap a psw form = form
@@ -274,7 +285,8 @@ changed_status framed Rrc a psw form = record { bits = refl; entry = tt }
 changed_status framed Rlc a psw form = record { bits = refl; entry = tt }
 changed_status framed Da a psw form = record { bits = refl; entry = tt }
 
-pub changed_form : (laws : KnownLaws) (framed : Bool) (done : AccumulatorOperation) (made : Made) → IsMade framed made → IsMade framed (changed_made done made.a made.psw)
+pub changed_form : (laws : KnownLaws) (framed : Bool) (done : AccumulatorOperation) (made : Made) → IsMade framed made
+    → IsMade framed (changed_made done made.a made.psw)
 changed_form laws framed done made form =
     let (x, a) = member laws 256 made.a.set form.a.normal in
     let (c, carry) = laws.bits.bit_some (carry_in made.psw) in

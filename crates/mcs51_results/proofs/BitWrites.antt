@@ -88,7 +88,8 @@ carry_with_is by_bit.OrlComplement c b x y h k = some_is c (tri_not b) x (1 - y)
 carry_with_is by_bit.AnlComplement c b x y h k = both_is c (tri_not b) x (1 - y) h (bit_not b y k)
 carry_with_is by_bit.Mov c b x y h k = k
 
-pub carry_bit_holds : (first : Option Suspended) (done : CarryByBit) (psw : Status) (b : Tri) (y : ℕ) (s : ChipState) → HoldsOfStatus first psw s.psw → IsBit b y
+pub carry_bit_holds : (first : Option Suspended) (done : CarryByBit) (psw : Status) (b : Tri) (y : ℕ) (s : ChipState)
+    → HoldsOfStatus first psw s.psw → IsBit b y
     → HoldsOfStatus first (carry_bit_made done b psw) (with_carry (carry_with done (carry_of s) y) s).psw
 carry_bit_holds first done psw b y s holds is =
     carried_holds first psw s.psw (carry_with done (carry_of s) y) (carry_joined done (carry_in psw) b) holds (carry_with_is done (carry_in psw) b (carry_of s) y (carry_bit first psw s.psw holds) is)
@@ -149,14 +150,16 @@ sets x n =
 
 -- RELATIONS
 
-pub bit_entry_holds : (laws : KnownLaws) (first : Option Suspended) (done : BitOperation) (n : ℕ) (entry : Option Entry) (x c b : ℕ) → n < 8 → x < 256 → IsFromEntry first entry x
+pub bit_entry_holds : (laws : KnownLaws) (first : Option Suspended) (done : BitOperation) (n : ℕ) (entry : Option Entry) (x c b : ℕ)
+    → n < 8 → x < 256 → IsFromEntry first entry x
     → IsFromEntry first (bit_entry done n entry) (with_bit x n (bit_after done c b))
 bit_entry_holds laws first bit.MovCarry n entry x c b lt small holds = tt
 bit_entry_holds laws first bit.Cpl n entry x c b lt small holds = tt
 bit_entry_holds laws first bit.Clr n entry x c b lt small holds = subst (IsFromEntry first (bit_entry bit.Clr n entry)) (clears x n small lt) (laws.values.entries.and first entry x (255 - 2 ^ n) holds)
 bit_entry_holds laws first bit.Setb n entry x c b lt small holds = subst (IsFromEntry first (bit_entry bit.Setb n entry)) (sets x n) (laws.values.entries.or first entry x (2 ^ n) holds)
 
-pub bit_entry_form : (framed : Bool) (done : BitOperation) (n : ℕ) (entry : Option Entry) → n < 8 → IsRelation framed entry → IsRelation framed (bit_entry done n entry)
+pub bit_entry_form : (framed : Bool) (done : BitOperation) (n : ℕ) (entry : Option Entry) → n < 8
+    → IsRelation framed entry → IsRelation framed (bit_entry done n entry)
 bit_entry_form framed bit.MovCarry n entry lt form = tt
 bit_entry_form framed bit.Cpl n entry lt form = tt
 bit_entry_form framed bit.Clr n entry lt form = and_form framed (255 - 2 ^ n) entry form
@@ -217,13 +220,15 @@ byte_bit_holds laws framed first done at t byte x c form holds bit =
       bit_entry_holds laws first done (at % 8) byte.entry x c (bit_at x (at % 8)) (place_below at) (laws.sets.below 256 x byte.set is.normal is.has) holds.1,
     )
 
-pub byte_bit_form : (laws : KnownLaws) (framed : Bool) (done : BitOperation) (at : ℕ) (t : Tri) (byte : Byte) → IsByte framed byte → IsByte framed (byte_with_bit done at t byte)
+pub byte_bit_form : (laws : KnownLaws) (framed : Bool) (done : BitOperation) (at : ℕ) (t : Tri) (byte : Byte)
+    → IsByte framed byte → IsByte framed (byte_with_bit done at t byte)
 byte_bit_form laws framed done at t byte form =
     let (x, is) = member laws 256 byte.set form.normal in
     let (c, bit) = laws.bits.bit_some t in
     record { normal = (byte_set_is laws done at t byte.set x c is bit).normal; entry = bit_entry_form framed done (at % 8) byte.entry (place_below at) form.entry }
 
-pub bit_known : (laws : KnownLaws) (at : ℕ) (set : Form) (x : ℕ) → IsNormal 256 set → Has 256 set x → IsBit (bit_of_set set (at % 8)) (bit_at x (at % 8))
+pub bit_known : (laws : KnownLaws) (at : ℕ) (set : Form) (x : ℕ) → IsNormal 256 set → Has 256 set x
+    → IsBit (bit_of_set set (at % 8)) (bit_at x (at % 8))
 bit_known laws at set x normal has = bits_at (known_bits 8 set) (at % 8) x (laws.bits.known 8 x set normal has)
 
 -- A BIT OF PSW
@@ -255,5 +260,6 @@ status_bit_holds laws framed first done at psw s x state form holds may =
           (bit_entry_holds laws under done n psw.entry x (carry_of s) (bit_at x n) (place_below at) small (read_entry framed first psw s x state form holds may));
     }
 
-pub status_bit_form : (framed : Bool) (done : BitOperation) (at : ℕ) (psw : Status) → IsStatus framed psw → IsStatus framed (status_with_bit done at psw)
+pub status_bit_form : (framed : Bool) (done : BitOperation) (at : ℕ) (psw : Status) → IsStatus framed psw
+    → IsStatus framed (status_with_bit done at psw)
 status_bit_form framed done at psw form = record { bits = refl; entry = own_form framed (bit_entry done (at % 8) psw.entry) (bit_entry_form framed done (at % 8) psw.entry (place_below at) (own_is framed psw.entry form.entry)) }

@@ -19,7 +19,8 @@ use Rattle.mcs51_results.proofs.Accumulations.{byte_is, plain_holds}
 one_is : (laws : KnownLaws) (m : ℕ) → 1 < m → IsResult m (single 1) 1
 one_is laws m more = single_is laws m 1 more
 
-pub increased_holds : (laws : KnownLaws) (framed : Bool) (first : Option Suspended) (byte : Byte) (x : ℕ) → IsByte framed byte → HoldsOfByte first byte x
+pub increased_holds : (laws : KnownLaws) (framed : Bool) (first : Option Suspended) (byte : Byte) (x : ℕ)
+    → IsByte framed byte → HoldsOfByte first byte x
     → HoldsOfByte first (increased byte) ((x + 1) % 256)
 increased_holds laws framed first byte x form holds =
     plain_holds first (add 256 byte.set (single 1)) ((x + 1) % 256) (add_is laws 256 x 1 byte.set (single 1) (byte_is framed first byte x form holds) (one_is laws 256 (omega arith)))
@@ -30,7 +31,8 @@ increased_form laws framed byte form = byte_form framed (add 256 byte.set (singl
 less_one : (x : ℕ) → (x + 256 - 1) % 256 ≡ (x + 255) % 256
 less_one x = omega arith
 
-pub decreased_holds : (laws : KnownLaws) (framed : Bool) (first : Option Suspended) (byte : Byte) (x : ℕ) → IsByte framed byte → HoldsOfByte first byte x
+pub decreased_holds : (laws : KnownLaws) (framed : Bool) (first : Option Suspended) (byte : Byte) (x : ℕ)
+    → IsByte framed byte → HoldsOfByte first byte x
     → HoldsOfByte first (decreased byte) ((x + 255) % 256)
 decreased_holds laws framed first byte x form holds =
     plain_holds first (sub 256 byte.set (single 1)) ((x + 255) % 256)
@@ -39,7 +41,8 @@ decreased_holds laws framed first byte x form holds =
 pub decreased_form : (laws : KnownLaws) (framed : Bool) (byte : Byte) → IsByte framed byte → IsByte framed (decreased byte)
 decreased_form laws framed byte form = byte_form framed (sub 256 byte.set (single 1)) (laws.sets.sub_normal 256 byte.set (single 1) form.normal (one_is laws 256 (omega arith)).normal)
 
-pointers_are : (laws : KnownLaws) (framed : Bool) (first : Option Suspended) (dpl dph : Byte) (x y : ℕ) → IsByte framed dpl → IsByte framed dph
+pointers_are : (laws : KnownLaws) (framed : Bool) (first : Option Suspended) (dpl dph : Byte) (x y : ℕ)
+    → IsByte framed dpl → IsByte framed dph
     → HoldsOfByte first dpl x → HoldsOfByte first dph y
     → IsResult 65536 (next_pointers dpl dph) ((word_of x y + 1) % 65536)
 pointers_are laws framed first dpl dph x y low high h k =
@@ -52,7 +55,8 @@ pointers_are laws framed first dpl dph x y low high h k =
 same_pointer : (x y : ℕ) → (word_of x y + 1) % 65536 ≡ (x + 256 * y + 1) % 65536
 same_pointer x y = omega arith
 
-pub pointer_holds : (laws : KnownLaws) (framed : Bool) (first : Option Suspended) (dpl dph : Byte) (s : ChipState) → IsByte framed dpl → IsByte framed dph
+pub pointer_holds : (laws : KnownLaws) (framed : Bool) (first : Option Suspended) (dpl dph : Byte) (s : ChipState)
+    → IsByte framed dpl → IsByte framed dph
     → HoldsOfByte first dpl s.dpl → HoldsOfByte first dph s.dph
     → HoldsOfByte first (pointer_increased dpl dph).0 (with_data_pointer ((data_pointer s + 1) % 65536) s).dpl
     × HoldsOfByte first (pointer_increased dpl dph).1 (with_data_pointer ((data_pointer s + 1) % 65536) s).dph

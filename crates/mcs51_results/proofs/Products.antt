@@ -37,7 +37,8 @@ ruled laws rule a b x y h k =
 
 -- MUL
 
-pub multiplied_holds : (laws : KnownLaws) (framed : Bool) (first : Option Suspended) (made : MadePair) (s : ChipState) → StandsPair framed first made s
+pub multiplied_holds : (laws : KnownLaws) (framed : Bool) (first : Option Suspended) (made : MadePair) (s : ChipState)
+    → StandsPair framed first made s
     → HoldsOfPair first (multiplied_made made.a made.b made.psw) (multiplied s)
 multiplied_holds laws framed first made s stands =
     let a = byte_is framed first made.a s.a stands.form.a stands.holds.a in
@@ -49,13 +50,15 @@ multiplied_holds laws framed first made s stands =
           (flag_is laws flag.Exceeding s.a s.b 0 made.a.set made.b.set (single 0) a.has b.has (zero_is laws).has);
     }
 
-ruled_normal : (laws : KnownLaws) (rule : NumberRule) (a b : Form) → IsNormal 256 a → IsNormal 256 b → IsNormal 256 (combine_or 256 (answer_by rule) a b (single 0) any_byte)
+ruled_normal : (laws : KnownLaws) (rule : NumberRule) (a b : Form) → IsNormal 256 a → IsNormal 256 b
+    → IsNormal 256 (combine_or 256 (answer_by rule) a b (single 0) any_byte)
 ruled_normal laws rule a b h k =
     let (x, first) = member laws 256 a h in
     let (y, second) = member laws 256 b k in
     (ruled laws rule a b x y first second).normal
 
-pub multiplied_form : (laws : KnownLaws) (framed : Bool) (made : MadePair) → IsPair framed made → IsPair framed (multiplied_made made.a made.b made.psw)
+pub multiplied_form : (laws : KnownLaws) (framed : Bool) (made : MadePair) → IsPair framed made
+    → IsPair framed (multiplied_made made.a made.b made.psw)
 multiplied_form laws framed made form = record {
   a = record { normal = ruled_normal laws ProductLow made.a.set made.b.set form.a.normal form.b.normal; entry = tt };
   b = record { normal = ruled_normal laws ProductHigh made.a.set made.b.set form.a.normal form.b.normal; entry = tt };
@@ -83,7 +86,8 @@ divided_normal : (laws : KnownLaws) (quotients b : Form) → IsNormal 256 quotie
 divided_normal laws quotients b normal = cond_both (is_within 256 (single 0) b) any_byte quotients (IsNormal 256) (λ e. laws.sets.whole_normal 256 (omega arith)) (λ e. normal)
 
 -- OV: it is known where B is known to be 0, or not to be 0
-overflow_psw : (laws : KnownLaws) (framed : Bool) (first : Option Suspended) (made : MadePair) (s : ChipState) → StandsPair framed first made s
+overflow_psw : (laws : KnownLaws) (framed : Bool) (first : Option Suspended) (made : MadePair) (s : ChipState)
+    → StandsPair framed first made s
     → HoldsOfStatus first (divided_made made.a made.b made.psw).psw (s.psw / 8 % 8 * 8 + 128 * 0 + 64 * half_carry_of s + 4 * bit_of (s.b == 0))
 overflow_psw laws framed first made s stands =
     let a = byte_is framed first made.a s.a stands.form.a stands.holds.a in
@@ -92,7 +96,8 @@ overflow_psw laws framed first made s stands =
     flagged_holds first made.psw s.psw 0 (half_carry_of s) (bit_of (s.b == 0)) Zero (half_carry_in made.psw) t stands.holds.psw refl (half_carry_bit first made.psw s.psw stands.holds.psw)
     (flag_is laws flag.ByZero s.a s.b 0 made.a.set made.b.set (single 0) a.has b.has (zero_is laws).has)
 
-by_number : (laws : KnownLaws) (framed : Bool) (first : Option Suspended) (made : MadePair) (s : ChipState) → StandsPair framed first made s → (s.b == 0) ≡ false
+by_number : (laws : KnownLaws) (framed : Bool) (first : Option Suspended) (made : MadePair) (s : ChipState)
+    → StandsPair framed first made s → (s.b == 0) ≡ false
     → HoldsOfPair first (divided_made made.a made.b made.psw) (divided s)
 by_number laws framed first made s stands some =
     let a = byte_is framed first made.a s.a stands.form.a stands.holds.a in
@@ -113,7 +118,8 @@ by_number laws framed first made s stands some =
       psw = subst (λ bit. HoldsOfStatus first (divided_made made.a made.b made.psw).psw (s.psw / 8 % 8 * 8 + 128 * 0 + 64 * half_carry_of s + 4 * bit)) (ap bit_of some) (overflow_psw laws framed first made s stands);
     }
 
-by_zero : (laws : KnownLaws) (framed : Bool) (first : Option Suspended) (made : MadePair) (s : ChipState) (a b : ℕ) → StandsPair framed first made s
+by_zero : (laws : KnownLaws) (framed : Bool) (first : Option Suspended) (made : MadePair) (s : ChipState) (a b : ℕ)
+    → StandsPair framed first made s
     → (s.b == 0) ≡ true → a < 256 → b < 256
     → HoldsOfPair first (divided_made made.a made.b made.psw) (divided_by_zero a b s)
 by_zero laws framed first made s a b stands none small less =
@@ -135,7 +141,8 @@ pub divided_holds : (laws : KnownLaws) (framed : Bool) (first : Option Suspended
     → HoldsOfPair first (divided_made made.a made.b made.psw) effect.1
 divided_holds laws framed first made s effect stands may = divided_by laws framed first made s effect (s.b == 0) stands refl may
 
-pub divided_form : (laws : KnownLaws) (framed : Bool) (made : MadePair) → IsPair framed made → IsPair framed (divided_made made.a made.b made.psw)
+pub divided_form : (laws : KnownLaws) (framed : Bool) (made : MadePair) → IsPair framed made
+    → IsPair framed (divided_made made.a made.b made.psw)
 divided_form laws framed made form = record {
   a = record { normal = divided_normal laws (combine_or 256 (answer_by Quotient) made.a.set made.b.set (single 0) any_byte) made.b.set (ruled_normal laws Quotient made.a.set made.b.set form.a.normal form.b.normal); entry = tt };
   b = record { normal = divided_normal laws (combine_or 256 (answer_by Remainder) made.a.set made.b.set (single 0) any_byte) made.b.set (ruled_normal laws Remainder made.a.set made.b.set form.a.normal form.b.normal); entry = tt };

@@ -21,7 +21,8 @@ use Rattle.mcs51_results.specs.Holding.{IsResult, AreOperands, IsOperand}
 use Rattle.mcs51_results.specs.Results.{set_of, add_carry, sub_carry}
 use Rattle.mcs51_results.specs.Rules.{answer_by, answer_stays}
 
-pub combined : (laws : KnownLaws) (answer : ℕ → ℕ → ℕ → ℕ) (a b c otherwise : Form) (x y z : ℕ) → StaysBelow 256 answer → IsResult 256 a x → IsResult 256 b y → IsResult 256 c z
+pub combined : (laws : KnownLaws) (answer : ℕ → ℕ → ℕ → ℕ) (a b c otherwise : Form) (x y z : ℕ) → StaysBelow 256 answer
+    → IsResult 256 a x → IsResult 256 b y → IsResult 256 c z
     → IsResult 256 otherwise (answer x y z) → IsResult 256 (combine_or 256 answer a b c otherwise) (answer x y z)
 unfolding combine_or
 combined laws answer a b c otherwise x y z stays h k l rest =
@@ -95,5 +96,6 @@ borrow_is laws x y z a b carry h k bit =
 
 -- LOGIC
 
-pub logic_is : (laws : KnownLaws) (logic : Logic) (x y : ℕ) (a b : Form) → IsResult 256 a x → IsResult 256 b y → IsResult 256 (logic_set 8 logic a b) (logic_of logic x y)
+pub logic_is : (laws : KnownLaws) (logic : Logic) (x y : ℕ) (a b : Form) → IsResult 256 a x → IsResult 256 b y
+    → IsResult 256 (logic_set 8 logic a b) (logic_of logic x y)
 logic_is laws logic x y a b h k = record { normal = laws.bits.logic_normal 8 logic a b h.normal k.normal; has = laws.bits.logic 8 x y logic a b h.normal k.normal h.has k.has }

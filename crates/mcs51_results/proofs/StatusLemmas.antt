@@ -57,7 +57,8 @@ half_carry_bit first psw p h = let same : p / 4 / 2 ^ 4 % 2 ≡ bit_at p 6 = ome
 
 -- SIX BITS
 
-pub six_agree : (b0 b1 b2 b3 b4 b5 : Tri) (v : ℕ) → v < 64 → IsBit b0 (v % 2) → IsBit b1 (v / 2 % 2) → IsBit b2 (v / 4 % 2) → IsBit b3 (v / 8 % 2)
+pub six_agree : (b0 b1 b2 b3 b4 b5 : Tri) (v : ℕ) → v < 64 → IsBit b0 (v % 2) → IsBit b1 (v / 2 % 2)
+    → IsBit b2 (v / 4 % 2) → IsBit b3 (v / 8 % 2)
     → IsBit b4 (v / 16 % 2) → IsBit b5 (v / 32 % 2)
     → Agrees (b0 ∷ b1 ∷ b2 ∷ b3 ∷ b4 ∷ b5 ∷ []) v
 six_agree b0 b1 b2 b3 b4 b5 v small h0 h1 h2 h3 h4 h5 =
@@ -71,7 +72,8 @@ at : (bits : List Tri) (place : ℕ) (v n : ℕ) → Agrees bits v → v / 2 ^ p
 at bits place v n h e = subst (IsBit (slice_index_or bits place Either)) e (bits_at bits place v h)
 
 -- the bits behind flags: q is what stays in PSW of its bits 3 to 5
-flags_agree : (bits : List Tri) (p q carry half overflow : ℕ) (c h o : Tri) → q ≡ p / 8 % 8 → Agrees bits (p / 4) → IsBit c carry → IsBit h half
+flags_agree : (bits : List Tri) (p q carry half overflow : ℕ) (c h o : Tri) → q ≡ p / 8 % 8 → Agrees bits (p / 4)
+    → IsBit c carry → IsBit h half
     → IsBit o overflow → carry < 2 → half < 2 → overflow < 2
     → Agrees (o ∷ slice_index_or bits 1 Either ∷ slice_index_or bits 2 Either ∷ slice_index_or bits 3 Either ∷ h ∷ c ∷ []) ((q * 8 + 128 * carry + 64 * half + 4 * overflow) / 4)
 flags_agree bits p q carry half overflow c h o is agrees first second third few some less =
@@ -87,7 +89,8 @@ flags_agree bits p q carry half overflow c h o is agrees first second third few 
     (subst (IsBit h) (omega (arith, small, less, some)) second)
     (subst (IsBit c) (omega (arith, small, less, some, few)) first))
 
-pub flagged_holds : (first : Option Suspended) (psw : Status) (p carry half overflow : ℕ) (c h o : Tri) → HoldsOfStatus first psw p → IsBit c carry
+pub flagged_holds : (first : Option Suspended) (psw : Status) (p carry half overflow : ℕ) (c h o : Tri)
+    → HoldsOfStatus first psw p → IsBit c carry
     → IsBit h half → IsBit o overflow
     → HoldsOfStatus first (flagged c h o psw) (p / 8 % 8 * 8 + 128 * carry + 64 * half + 4 * overflow)
 flagged_holds first psw p carry half overflow c h o holds x y z = record {
@@ -96,7 +99,8 @@ flagged_holds first psw p carry half overflow c h o holds x y z = record {
 }
 
 -- three flags by their rules
-pub flags_row : (laws : KnownLaws) (first : Option Suspended) (rules : ThreeFlags) (a b c : Form) (psw : Status) (p x y z : ℕ) → HoldsOfStatus first psw p
+pub flags_row : (laws : KnownLaws) (first : Option Suspended) (rules : ThreeFlags) (a b c : Form) (psw : Status) (p x y z : ℕ)
+    → HoldsOfStatus first psw p
     → Has 256 a x → Has 256 b y → Has 256 c z → HoldsOfStatus first (three_flags rules a b c psw)
     (p / 8 % 8 * 8 + 128 * bit_of (flag_by rules.carry x y z) + 64 * bit_of (flag_by rules.half x y z) + 4 * bit_of (flag_by rules.overflow x y z))
 flags_row laws first rules a b c psw p x y z holds h k l =

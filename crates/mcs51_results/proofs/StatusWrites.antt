@@ -82,7 +82,8 @@ high_masked : (w and or : ℕ) → bit_or (bit_and w and) or / 4 ≡ bit_or (bit
 high_masked w and or = or_shr (bit_and w and) or 2 ∙ ap (λ n. bit_or n (or / 4)) (and_shr w and 2)
 
 -- the own relation of PSW, with other bits that aren't held
-wider_word : (w and or y : ℕ) → bit_and and 3 ≡ 3 → bit_and or 3 ≡ 0 → y < 4 → bit_or (bit_and w and) or / 4 * 4 + y ≡ bit_or (bit_and (w / 4 * 4 + y) and) or
+wider_word : (w and or y : ℕ) → bit_and and 3 ≡ 3 → bit_and or 3 ≡ 0 → y < 4
+    → bit_or (bit_and w and) or / 4 * 4 + y ≡ bit_or (bit_and (w / 4 * 4 + y) and) or
 wider_word w and or y ands ors few =
     let wider = w / 4 * 4 + y in
     let all : and % 4 ≡ 3 = sym (and_mask and 2) ∙ ands in
@@ -96,7 +97,8 @@ wider_word w and or y ands ors few =
     high_masked wider and or ∙ ap (λ n. bit_or (bit_and n (and / 4)) (or / 4)) quarter ∙ sym (high_masked w and or) in
     omega (arith, low, high)
 
-relation_wider : (framed : Bool) (first : Option ChipState) (entry : Option Entry) (p y : ℕ) → p % 4 ≡ 0 → y < 4 → IsOwnRelation framed psw_place 3 entry
+relation_wider : (framed : Bool) (first : Option ChipState) (entry : Option Entry) (p y : ℕ) → p % 4 ≡ 0 → y < 4
+    → IsOwnRelation framed psw_place 3 entry
     → IsFromEntry (option_map suspended_of first) entry p
     → IsFromEntry (option_map suspended_of first) entry (p + y)
 relation_wider framed first None p y held few form holds = tt
@@ -111,7 +113,8 @@ relation_wider true (Some f) (Some e) p y held few (place, and_small, ands, or_s
     (w / 4 * 4 + y, (omega (arith, small, few), same ∙ reads), value)
 
 -- the own relation of a byte that is written
-own_word : (w and or : ℕ) → and < 256 → or < 256 → bit_or (bit_and w and) or / 4 * 4 ≡ bit_or (bit_and (w / 4 * 4) (bit_or and 3)) (bit_and or 252)
+own_word : (w and or : ℕ) → and < 256 → or < 256
+    → bit_or (bit_and w and) or / 4 * 4 ≡ bit_or (bit_and (w / 4 * 4) (bit_or and 3)) (bit_and or 252)
 own_word w and or and_small or_small =
     let cut : bit_and or 252 ≡ or / 4 * 4 = and_high_mask 8 2 (omega arith) or or_small in
     let none : bit_and or 252 % 4 ≡ 0 = ap (λ n. n % 4) cut ∙ omega arith in
@@ -139,7 +142,8 @@ own_by (Some f) e x true is and_small or_small (w, (small, reads), value) =
     ap (bit_and (w / 4 * 4)) mask ∙ ap (λ n. bit_and n 65532) (sym plain) ∙ same_held w 0 small (omega arith) ∙ sym (ap (bit_and w) mask) in
     (w / 4 * 4, (omega (arith, small), same ∙ reads), ap (λ n. n / 4 * 4) value ∙ own_word w e.and e.or and_small or_small)
 
-pub own_holds : (framed : Bool) (first : Option ChipState) (entry : Option Entry) (x : ℕ) → IsRelation framed entry → IsFromEntry (option_map suspended_of first) entry x
+pub own_holds : (framed : Bool) (first : Option ChipState) (entry : Option Entry) (x : ℕ) → IsRelation framed entry
+    → IsFromEntry (option_map suspended_of first) entry x
     → IsFromEntry (option_map suspended_of first) (own_entry entry) (x / 4 * 4)
 own_holds framed first None x form holds = tt
 own_holds false first (Some e) x form holds = absurd form
@@ -209,7 +213,8 @@ written_form framed byte form = record { bits = refl; entry = own_form framed by
 
 -- LOGIC
 
-logic_bit : (l : Bitwise) (a b : Tri) (x y i : ℕ) → IsBit a (bit_at x i) → IsBit b (bit_at y i) → IsBit (tri_logic l a b) (bit_at (logic_of l x y) i)
+logic_bit : (l : Bitwise) (a b : Tri) (x y i : ℕ) → IsBit a (bit_at x i) → IsBit b (bit_at y i)
+    → IsBit (tri_logic l a b) (bit_at (logic_of l x y) i)
 logic_bit And a b x y i h k = subst (IsBit (tri_and a b)) (sym (bit_at_and x y i)) (and_bit a b (bit_at x i) (bit_at y i) h k)
 logic_bit Or a b x y i h k = subst (IsBit (tri_or a b)) (sym (bit_at_or x y i)) (or_bit a b (bit_at x i) (bit_at y i) h k)
 logic_bit Xor a b x y i h k = subst (IsBit (tri_xor a b)) (sym (bit_at_xor x y i)) (xor_bit a b (bit_at x i) (bit_at y i) h k)
@@ -219,7 +224,8 @@ logic_below And x y h k = omega (arith, and_le_l x y, h)
 logic_below Or x y h k = or_lt 8 x y h k
 logic_below Xor x y h k = xor_lt 8 x y h k
 
-masked_agrees : (laws : KnownLaws) (done : Logic) (psw : Status) (operand : Operand) (x mask : ℕ) → x < 256 → Agrees psw.bits (x / 4) → IsOperand operand mask
+masked_agrees : (laws : KnownLaws) (done : Logic) (psw : Status) (operand : Operand) (x mask : ℕ) → x < 256
+    → Agrees psw.bits (x / 4) → IsOperand operand mask
     → Agrees (six (λ place. tri_logic (bitwise done) (bit_in psw place) (bit_of_set (set_of operand) (2 + place)))) (masked done x mask / 4)
 masked_agrees laws done psw operand x mask small agrees is =
     let other = operand_is laws operand mask is in
@@ -244,7 +250,8 @@ operands_are : (operand : Operand) (x : ℕ) → IsOperand operand x → AreOper
 operands_are (Constant m) x is = is.0
 operands_are (Among set) x is = is.normal
 
-pub masked_psw_holds : (laws : KnownLaws) (framed : Bool) (first : Option ChipState) (done : Logic) (psw : Status) (operand : Operand) (s : ChipState) (x mask : ℕ) → IsChipState s → IsStatus framed psw
+pub masked_psw_holds : (laws : KnownLaws) (framed : Bool) (first : Option ChipState) (done : Logic) (psw : Status) (operand : Operand) (s : ChipState) (x mask : ℕ)
+    → IsChipState s → IsStatus framed psw
     → HoldsOfStatus (option_map suspended_of first) psw s.psw → MayReadSfr s Psw x → IsOperand operand mask
     → HoldsOfStatus (option_map suspended_of first) (masked_status done psw operand) (write_sfr Psw (masked done x mask) s).psw
 masked_psw_holds laws framed first done psw operand s x mask state form holds may is =

@@ -9,4 +9,5 @@ use Rattle.mcs51_chip.specs.NumberFacts.{bit_after_below, bit_put}
 use Rattle.mcs51_results.specs.StatusBytes.{bit_answer}
 
 pub bit_stays : (operation : BitOperation) (at : ℕ) → StaysBelow 256 (bit_answer operation at)
-bit_stays operation at x y z h k l = bit_put x (at % 8) (bit_after operation (z % 2) (bit_at x (at % 8))) (omega arith) h (bit_after_below operation (z % 2) (bit_at x (at % 8)) (omega arith))
+bit_stays operation at x y z h k l =
+    bit_put x (at % 8) (bit_after operation (z % 2) (bit_at x (at % 8))) (omega arith) h (bit_after_below operation (z % 2) (bit_at x (at % 8)) (omega arith))

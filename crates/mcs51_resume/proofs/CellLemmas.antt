@@ -30,7 +30,8 @@ use Rattle.mcs51_resume.proofs.PlaceLemmas.{relation_formed, relation_tells}
 
 -- THE EXIT'S CELLS
 
-word_fits : (laws : KnownLaws) (framed : Bool) (places : ℕ → Byte) (size : ℕ) (word : Word) (entry : Option Entry) → AreFormed framed places entry → IsRelation true entry
+word_fits : (laws : KnownLaws) (framed : Bool) (places : ℕ → Byte) (size : ℕ) (word : Word) (entry : Option Entry)
+    → AreFormed framed places entry → IsRelation true entry
     → FitsCell size word → FitsCell size (cell_word_by places word entry)
 word_fits laws framed places size word None formed form fits = fits
 word_fits laws framed places size word (Some entry) formed form fits =
@@ -39,13 +40,16 @@ word_fits laws framed places size word (Some entry) formed form fits =
       byte = λ one v. laws.bits.pair_byte (masked_by entry (places entry.place)).set v held.normal;
     }
 
-by_relation : (laws : KnownLaws) (framed : Bool) (places : ℕ → Byte) (word : Word) (entry : Option Entry) → word.entry ≡ entry → AreFormed framed places entry → IsRelation true entry
+by_relation : (laws : KnownLaws) (framed : Bool) (places : ℕ → Byte) (word : Word) (entry : Option Entry)
+    → word.entry ≡ entry → AreFormed framed places entry → IsRelation true entry
     → IsRelation framed (cell_word_by places word entry).entry
 by_relation laws framed places word None is formed form = subst (IsRelation framed) (sym is) (no_relation framed)
 by_relation laws framed places word (Some entry) is formed form = (masked_form laws framed entry (places entry.place) form.1 form.2 formed).entry
 
-by_holds : (laws : KnownLaws) (framed : Bool) (places : ℕ → Byte) (f : Suspended) (first : Option Suspended) (word : Word) (entry : Option Entry) (v : ℕ) → word.entry ≡ entry → AreFormed framed places entry
-    → IsRelation true entry → Tells places f first entry → HoldsOfWord (Some f) word v → HoldsOfWord first (cell_word_by places word entry) v
+by_holds : (laws : KnownLaws) (framed : Bool) (places : ℕ → Byte) (f : Suspended) (first : Option Suspended) (word : Word) (entry : Option Entry) (v : ℕ)
+    → word.entry ≡ entry → AreFormed framed places entry
+    → IsRelation true entry → Tells places f first entry → HoldsOfWord (Some f) word v
+    → HoldsOfWord first (cell_word_by places word entry) v
 by_holds laws framed places f first word None v is formed form tells holds = (holds.0, subst (λ (e : Option Entry). IsFromEntry first e v) (sym is) tt)
 by_holds laws framed places f first word (Some entry) v is formed form tells holds =
     laws.values.bytes.to_word first v (masked_by entry (places entry.place)) (masked_form laws framed entry (places entry.place) form.1 form.2 formed).normal
@@ -86,7 +90,9 @@ module _ (laws : InstructionLaws) (framed : Bool) (a exit : Known) (pc : ℕ) (s
       let all = resumed_cells (place_byte framed a pc) a.cells exit.cells exit.touched in
       subst (λ (top : ℕ). AreCells 0 top 0 all.cells) cells_up_to (subst (λ (bottom : ℕ). AreCells bottom all.hi bottom all.cells) cells_from cells_formed.are)
 
-  chip_cell : (cell : Cell) → IsFromEither (resumed_cell_word (place_byte framed a pc)) a.cells.cells exit.cells.cells cell → IsChipCell framed cell
+  chip_cell : (cell : Cell)
+      → IsFromEither (resumed_cell_word (place_byte framed a pc)) a.cells.cells exit.cells.cells cell
+      → IsChipCell framed cell
   chip_cell cell (inl held) = All-contains (IsChipCell framed) a.cells.cells cell form.each_cell held
   chip_cell cell (inr (one, held, is)) =
       let own = All-contains (IsChipCell true) exit.cells.cells one exit_form.each_cell held in
@@ -102,7 +108,8 @@ module _ (laws : InstructionLaws) (framed : Bool) (a exit : Known) (pc : ℕ) (s
       all_of (IsChipCell framed) cells (each_from (IsChipCell framed) cells
       (λ cell held. chip_cell cell (laws.known.frames.origin (resumed_cell_word (place_byte framed a pc)) a.cells exit.cells exit.touched cell held)))
 
-each_holds : (laws : InstructionLaws) (framed : Bool) (a exit : Known) (f t : ChipState) (first : Option ChipState) → IsUnder framed a f first → IsUnder true exit t (Some f)
+each_holds : (laws : InstructionLaws) (framed : Bool) (a exit : Known) (f t : ChipState) (first : Option ChipState)
+    → IsUnder framed a f first → IsUnder true exit t (Some f)
     → EachHolds (option_map suspended_of first) (resumed_cell_word (place_byte framed a f.pc)) (slice_index t.ram) exit.cells.cells
 each_holds laws framed a exit f t first under left cell held =
     let own = All-contains (IsChipCell true) exit.cells.cells cell left.form.each_cell held in
@@ -111,7 +118,8 @@ each_holds laws framed a exit f t first under left cell held =
     (relation_formed laws framed a f.pc under.holds.state.pc under.form cell.word.entry own.entry) own.entry (relation_tells laws framed a f first under cell.word.entry own.entry)
     (left.holds.parts.cells.1 cell held)
 
-pub cells_stand : (laws : InstructionLaws) (framed : Bool) (a exit : Known) (f t : ChipState) (first : Option ChipState) → IsUnder framed a f first → IsUnder true exit t (Some f)
+pub cells_stand : (laws : InstructionLaws) (framed : Bool) (a exit : Known) (f t : ChipState) (first : Option ChipState)
+    → IsUnder framed a f first → IsUnder true exit t (Some f)
     → StandsUnder (option_map suspended_of first) (resumed_cells (place_byte framed a f.pc) a.cells exit.cells exit.touched).cells (slice_index t.ram)
 cells_stand laws framed a exit f t first under left =
     laws.known.frames.untouched (resumed_cell_word (place_byte framed a f.pc)) (option_map suspended_of first) (slice_index f.ram) (slice_index t.ram)
@@ -121,7 +129,8 @@ cells_stand laws framed a exit f t first under left =
 
 -- TOUCHED RANGES
 
-pub untouched_behind : (laws : RangeLaws) (framed : Bool) (touched exit : List (ℕ × ℕ)) (f t : ChipState) (first : Option ChipState) → IsFramed framed first
+pub untouched_behind : (laws : RangeLaws) (framed : Bool) (touched exit : List (ℕ × ℕ)) (f t : ChipState) (first : Option ChipState)
+    → IsFramed framed first
     → KeepsUntouched touched f first → KeepsUntouched exit t (Some f) → KeepsUntouched (touched_behind framed touched exit) t first
 untouched_behind laws framed touched exit f t None base before behind = tt
 untouched_behind laws false touched exit f t (Some g) base before behind = absurd (cc)

@@ -33,8 +33,10 @@ module _ (laws : InstructionLaws) (framed : Bool) (a exit : Known) (f t : ChipSt
   byte_stands byte v named holds =
       byte_holds laws.known (place_byte framed a f.pc) (suspended_of f) (option_map suspended_of first) byte v (relation_tells laws framed a f first under byte.entry named) holds
 
-  own_stands : (byte : Byte) (place unheld : ℕ) (sfr : Sfr) → IsRelation true (Some (record { place = place; and = 0; or = 0 })) → IsOwnRelation true place unheld byte.entry
-      → HoldsOfReads (Some (suspended_of f)) byte t sfr → HoldsOfReads (option_map suspended_of first) (resumed_byte (place_byte framed a f.pc) byte) t sfr
+  own_stands : (byte : Byte) (place unheld : ℕ) (sfr : Sfr)
+      → IsRelation true (Some (record { place = place; and = 0; or = 0 })) → IsOwnRelation true place unheld byte.entry
+      → HoldsOfReads (Some (suspended_of f)) byte t sfr
+      → HoldsOfReads (option_map suspended_of first) (resumed_byte (place_byte framed a f.pc) byte) t sfr
   own_stands byte place unheld sfr named form reads = λ x may. byte_stands byte x (own_is_relation true place unheld byte.entry named form) (reads x may)
 
   parts_stand : (sp : ℕ) → t.sp ≡ sp → HoldsOfParts (resumed_known framed a f.pc sp exit) t first
@@ -61,7 +63,8 @@ module _ (laws : InstructionLaws) (framed : Bool) (a exit : Known) (f t : ChipSt
 
 -- THE STACK POINTER
 
-pub has_pointer : (a : Known) (f : ChipState) (first : Option ChipState) (sp : ℕ) → HoldsOf a f first → CameAt (Some sp) f → is_in 256 a.sp sp ≡ true
+pub has_pointer : (a : Known) (f : ChipState) (first : Option ChipState) (sp : ℕ) → HoldsOf a f first
+    → CameAt (Some sp) f → is_in 256 a.sp sp ≡ true
 has_pointer a f first sp holds came = any_from sp (members 256 a.sp) (subst (Has 256 a.sp) came holds.parts.sp)
 
 -- FORM
@@ -95,11 +98,13 @@ module _ (laws : InstructionLaws) (framed : Bool) (a exit : Known) (pc : ℕ) (s
         none_touched = none_touched framed a.touched exit.touched;
       }
 
-pub resumed_form : (laws : InstructionLaws) (framed : Bool) (a exit : Known) (pc sp : ℕ) → IsKnown framed a → IsKnown true exit → pc < 65536 → sp < 256
+pub resumed_form : (laws : InstructionLaws) (framed : Bool) (a exit : Known) (pc sp : ℕ) → IsKnown framed a
+    → IsKnown true exit → pc < 65536 → sp < 256
     → IsKnown framed (resumed_known framed a pc sp exit)
 resumed_form laws framed a exit pc sp form exit_form small = in_form laws framed a exit pc small form exit_form sp
 
-pub covers : (laws : InstructionLaws) (framed : Bool) (a exit : Known) (f t : ChipState) (first : Option ChipState) (vector sp level : ℕ) → IsUnder framed a f first → IsUnder true exit t (Some f)
+pub covers : (laws : InstructionLaws) (framed : Bool) (a exit : Known) (f t : ChipState) (first : Option ChipState) (vector sp level : ℕ)
+    → IsUnder framed a f first → IsUnder true exit t (Some f)
     → GoesOn (Irq vector (Some sp) level) t (Some f) → IsUnder framed (resumed_known framed a f.pc sp exit) t first
 covers laws framed a exit f t first vector sp level under left goes = record {
   base = under.base;

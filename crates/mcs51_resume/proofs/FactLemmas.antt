@@ -37,7 +37,8 @@ accumulator_is f t exit left is =
     let byte = left.suspended.a in
     number ∙ ap (λ n. n % 256) (same_alone word f.a small (omega (arith, byte)) same) ∙ byte_alone f.a byte
 
-ram_is : (laws : InstructionLaws) (f t : ChipState) (exit : Known) → IsLeft f t exit → (at : ℕ) → at < 256 → is_ram_itself exit at ≡ true → slice_index t.ram at ≡ slice_index f.ram at
+ram_is : (laws : InstructionLaws) (f t : ChipState) (exit : Known) → IsLeft f t exit → (at : ℕ) → at < 256
+    → is_ram_itself exit at ≡ true → slice_index t.ram at ≡ slice_index f.ram at
 ram_is laws f t exit left at inside is = elim (or_cases (not (has_address exit.touched at)) (is_itself 255 at (read exit.cells.cells at 1).entry) is) [
   | inl untouched ↦ left.under.holds.parts.untouched at (not-true (has_address exit.touched at) untouched)
   | inr again ↦
@@ -55,7 +56,8 @@ status_is f t exit left is =
     let (y, few, same) = reads_status f left.suspended word reads in
     two_low f.psw y t.psw left.suspended.psw left.suspended.psw_held few left.under.holds.state.psw_held (number ∙ ap (λ n. n % 256) same)
 
-compared_is : (laws : InstructionLaws) (f t : ChipState) (exit : Known) → IsLeft f t exit → (compared : Compared) → IsCompared compared → is_compared_itself exit compared ≡ true
+compared_is : (laws : InstructionLaws) (f t : ChipState) (exit : Known) → IsLeft f t exit → (compared : Compared)
+    → IsCompared compared → is_compared_itself exit compared ≡ true
     → compared_in compared t ≡ compared_in compared f
 compared_is laws f t exit left Accumulator form is = accumulator_is f t exit left is
 compared_is laws f t exit left (Ram at) form is = ram_is laws f t exit left at form is
@@ -68,13 +70,15 @@ kept_where : {F : Type 0} (first second : Bool) (fact : F) (P : Option F → Typ
 kept_where first second fact P both none =
     cond_both (first && second) (Some fact) None P (λ e. let parts = and_parts first second e in both parts.0 parts.1) (λ e. none)
 
-pub linear_holds : (laws : InstructionLaws) (f t : ChipState) (exit : Known) → IsLeft f t exit → (fact : Option LinearFact) → IsLinear fact → HoldsOfLinear fact f → HoldsOfLinear (linear_resumed exit fact) t
+pub linear_holds : (laws : InstructionLaws) (f t : ChipState) (exit : Known) → IsLeft f t exit
+    → (fact : Option LinearFact) → IsLinear fact → HoldsOfLinear fact f → HoldsOfLinear (linear_resumed exit fact) t
 linear_holds laws f t exit left None form holds = tt
 linear_holds laws f t exit left (Some fact) form holds =
     kept_where (is_itself 255 accumulator_place exit.a.entry) (is_ram_itself exit fact.place) fact (λ kept. HoldsOfLinear kept t)
     (λ own ram. accumulator_is f t exit left own ∙ holds ∙ ap (λ n. (fact.factor * n + fact.added) % 256) (sym (ram_is laws f t exit left fact.place form.0 ram))) tt
 
-pub carry_holds : (laws : InstructionLaws) (f t : ChipState) (exit : Known) → IsLeft f t exit → (fact : Option CarryFact) → IsCarry fact → HoldsOfCarry fact f → HoldsOfCarry (carry_resumed exit fact) t
+pub carry_holds : (laws : InstructionLaws) (f t : ChipState) (exit : Known) → IsLeft f t exit
+    → (fact : Option CarryFact) → IsCarry fact → HoldsOfCarry fact f → HoldsOfCarry (carry_resumed exit fact) t
 carry_holds laws f t exit left None form holds = tt
 carry_holds laws f t exit left (Some fact) form holds =
     kept_where (is_itself 255 psw_place exit.psw.entry) (is_compared_itself exit fact.compared) fact (λ kept. HoldsOfCarry kept t)

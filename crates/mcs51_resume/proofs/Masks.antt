@@ -20,14 +20,16 @@ use Rattle.mcs51_resume.specs.Resume.{masked_by, resumed_by, resumed_byte}
 -- WHAT THEY HOLD OF
 
 -- a fact of what a place held, behind the masks of a relation unless they keep each bit
-behind_masks : (P : Byte → Type 0) (entry : Entry) (held : Byte) → entry.and < 256 → entry.or < 256 → (is_unmasked 255 entry ≡ true → P held)
+behind_masks : (P : Byte → Type 0) (entry : Entry) (held : Byte) → entry.and < 256 → entry.or < 256
+    → (is_unmasked 255 entry ≡ true → P held)
     → P (byte_or entry.or (byte_and entry.and held)) → P (masked_by entry held)
 behind_masks P entry held and_small or_small whole some = elim (cases_Bool (is_unmasked 255 entry)) [
   | inl keeps ↦ rw keeps (whole keeps)
   | inr masks ↦ rw (masks, byte_alone entry.and and_small, byte_alone entry.or or_small) some
 ]
 
-pub masked_holds : (laws : KnownLaws) (first : Option Suspended) (entry : Entry) (held : Byte) (word : ℕ) → entry.and < 256 → entry.or < 256 → IsNormal 256 held.set
+pub masked_holds : (laws : KnownLaws) (first : Option Suspended) (entry : Entry) (held : Byte) (word : ℕ)
+    → entry.and < 256 → entry.or < 256 → IsNormal 256 held.set
     → HoldsOfByte first held word → HoldsOfByte first (masked_by entry held) (bit_or (bit_and word entry.and) entry.or)
 masked_holds laws first entry held word and_small or_small normal holds =
     let bytes = laws.values.bytes.sized in
@@ -49,13 +51,15 @@ abbrev pub Tells : (places : ℕ → Byte) → (suspended : Suspended) → (firs
 Tells places suspended first None = Unit {0}
 Tells places suspended first (Some entry) = IsTold places suspended first entry
 
-pub told_holds : (laws : KnownLaws) (places : ℕ → Byte) (f : Suspended) (first : Option Suspended) (entry : Entry) (v : ℕ) → IsTold places f first entry
+pub told_holds : (laws : KnownLaws) (places : ℕ → Byte) (f : Suspended) (first : Option Suspended) (entry : Entry) (v : ℕ)
+    → IsTold places f first entry
     → IsFromEntry (Some f) (Some entry) v → HoldsOfByte first (masked_by entry (places entry.place)) v
 told_holds laws places f first entry v told (word, reads, made) =
     subst (λ (n : ℕ). HoldsOfByte first (masked_by entry (places entry.place)) n) (sym made)
     (masked_holds laws first entry (places entry.place) word told.and_small told.or_small told.normal (told.tells word reads))
 
-by_holds : (laws : KnownLaws) (places : ℕ → Byte) (f : Suspended) (first : Option Suspended) (exit : Byte) (entry : Option Entry) (v : ℕ) → exit.entry ≡ entry
+by_holds : (laws : KnownLaws) (places : ℕ → Byte) (f : Suspended) (first : Option Suspended) (exit : Byte) (entry : Option Entry) (v : ℕ)
+    → exit.entry ≡ entry
     → Tells places f first entry → HoldsOfByte (Some f) exit v → HoldsOfByte first (resumed_by places exit entry) v
 by_holds laws places f first exit None v is tells holds = (holds.0, subst (λ (entry : Option Entry). IsFromEntry first entry v) (sym is) tt)
 by_holds laws places f first exit (Some entry) v is tells holds =
@@ -72,7 +76,8 @@ masked_normal : (laws : KnownLaws) (entry : Entry) (held : Byte) → entry.and <
 masked_normal laws entry held and_small or_small normal =
     laws.values.bytes.sized.or_normal entry.or (byte_and entry.and held) or_small (laws.values.bytes.sized.and_normal entry.and held and_small normal)
 
-pub masked_form : (laws : KnownLaws) (framed : Bool) (entry : Entry) (held : Byte) → entry.and < 256 → entry.or < 256 → IsByte framed held → IsByte framed (masked_by entry held)
+pub masked_form : (laws : KnownLaws) (framed : Bool) (entry : Entry) (held : Byte) → entry.and < 256 → entry.or < 256
+    → IsByte framed held → IsByte framed (masked_by entry held)
 masked_form laws framed entry held and_small or_small form = behind_masks (IsByte framed) entry held and_small or_small (λ whole. form) record {
   normal = masked_normal laws entry held and_small or_small form.normal;
   entry = or_form framed entry.or (option_map (entry_and entry.and) held.entry) or_small (and_form framed entry.and held.entry form.entry);
@@ -83,18 +88,21 @@ abbrev pub AreFormed : (framed : Bool) → (places : ℕ → Byte) → Option En
 AreFormed framed places None = Unit {0}
 AreFormed framed places (Some entry) = IsByte framed (places entry.place)
 
-by_form : (laws : KnownLaws) (framed : Bool) (places : ℕ → Byte) (exit : Byte) (entry : Option Entry) → exit.entry ≡ entry → AreFormed framed places entry → IsRelation true entry
+by_form : (laws : KnownLaws) (framed : Bool) (places : ℕ → Byte) (exit : Byte) (entry : Option Entry)
+    → exit.entry ≡ entry → AreFormed framed places entry → IsRelation true entry
     → IsNormal 256 exit.set → IsByte framed (resumed_by places exit entry)
 by_form laws framed places exit None is formed form normal = record { normal = normal; entry = subst (IsRelation framed) (sym is) (no_relation framed) }
 by_form laws framed places exit (Some entry) is formed form normal = masked_form laws framed entry (places entry.place) form.1 form.2 formed
 
-pub byte_form : (laws : KnownLaws) (framed : Bool) (places : ℕ → Byte) (exit : Byte) → AreFormed framed places exit.entry → IsByte true exit → IsByte framed (resumed_byte places exit)
+pub byte_form : (laws : KnownLaws) (framed : Bool) (places : ℕ → Byte) (exit : Byte)
+    → AreFormed framed places exit.entry → IsByte true exit → IsByte framed (resumed_byte places exit)
 byte_form laws framed places exit formed form = by_form laws framed places exit exit.entry refl formed form.entry form.normal
 
 -- REGISTERS THAT DON'T HOLD ALL OF THEIR BITS
 
 -- the masks leave the bits as they are that it doesn't hold
-pub own_masked : (framed : Bool) (place unheld : ℕ) (entry : Entry) (held : Option Entry) → IsOwnRelation true place unheld (Some entry) → IsOwnRelation framed place unheld held
+pub own_masked : (framed : Bool) (place unheld : ℕ) (entry : Entry) (held : Option Entry)
+    → IsOwnRelation true place unheld (Some entry) → IsOwnRelation framed place unheld held
     → IsOwnRelation framed place unheld (masked_entry entry held)
 own_masked framed place unheld entry None masks form = no_own_relation framed place unheld
 own_masked false place unheld entry (Some held) masks form = form
@@ -110,13 +118,16 @@ own_masked true place unheld entry (Some held) (named, and_small, and_free, or_s
       and_or_apart unheld (bit_and held.or entry.and) entry.or or_free ∙ none,
     )
 
-pub own_is_relation : (framed : Bool) (place unheld : ℕ) (entry : Option Entry) → IsRelation true (Some (record { place = place; and = 0; or = 0 })) → IsOwnRelation framed place unheld entry → IsRelation framed entry
+pub own_is_relation : (framed : Bool) (place unheld : ℕ) (entry : Option Entry)
+    → IsRelation true (Some (record { place = place; and = 0; or = 0 })) → IsOwnRelation framed place unheld entry
+    → IsRelation framed entry
 own_is_relation framed place unheld None named form = no_relation framed
 own_is_relation false place unheld (Some entry) named form = form
 own_is_relation true place unheld (Some entry) named (own, and_small, and_free, or_small, or_free) =
     ((subst (λ p. IsRelation true (Some (record { place = p; and = 0; or = 0 }))) (sym own) named).0, and_small, or_small)
 
-own_masked_by : (laws : KnownLaws) (framed : Bool) (place unheld : ℕ) (entry : Entry) (held : Byte) → IsOwnRelation true place unheld (Some entry) → IsOwnByte framed place unheld held
+own_masked_by : (laws : KnownLaws) (framed : Bool) (place unheld : ℕ) (entry : Entry) (held : Byte)
+    → IsOwnRelation true place unheld (Some entry) → IsOwnByte framed place unheld held
     → IsOwnByte framed place unheld (masked_by entry held)
 own_masked_by laws framed place unheld entry held masks form =
     let (named, and_small, and_free, or_small, or_free) = masks in
@@ -125,13 +136,15 @@ own_masked_by laws framed place unheld entry held masks form =
       entry = own_masked framed place unheld entry held.entry masks form.entry;
     }
 
-own_by_form : (laws : KnownLaws) (framed : Bool) (place unheld : ℕ) (places : ℕ → Byte) (exit : Byte) (entry : Option Entry) → exit.entry ≡ entry → IsOwnByte framed place unheld (places place)
+own_by_form : (laws : KnownLaws) (framed : Bool) (place unheld : ℕ) (places : ℕ → Byte) (exit : Byte) (entry : Option Entry)
+    → exit.entry ≡ entry → IsOwnByte framed place unheld (places place)
     → IsOwnRelation true place unheld entry → IsNormal 256 exit.set → IsOwnByte framed place unheld (resumed_by places exit entry)
 own_by_form laws framed place unheld places exit None is held masks normal =
     record { normal = normal; entry = subst (IsOwnRelation framed place unheld) (sym is) (no_own_relation framed place unheld) }
 own_by_form laws framed place unheld places exit (Some entry) is held masks normal =
     own_masked_by laws framed place unheld entry (places entry.place) masks (subst (λ p. IsOwnByte framed place unheld (places p)) (sym masks.0) held)
 
-pub own_form : (laws : KnownLaws) (framed : Bool) (place unheld : ℕ) (places : ℕ → Byte) (exit : Byte) → IsOwnByte framed place unheld (places place) → IsOwnByte true place unheld exit
+pub own_form : (laws : KnownLaws) (framed : Bool) (place unheld : ℕ) (places : ℕ → Byte) (exit : Byte)
+    → IsOwnByte framed place unheld (places place) → IsOwnByte true place unheld exit
     → IsOwnByte framed place unheld (resumed_byte places exit)
 own_form laws framed place unheld places exit held form = own_by_form laws framed place unheld places exit exit.entry refl held form.entry form.normal

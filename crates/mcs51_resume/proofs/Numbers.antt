@@ -68,7 +68,8 @@ enable_low n = and_mod n 65471 6 ∙ and_mask (n % 64) 6 ∙ omega arith
 enable_high : (n : ℕ) → n < 65536 → bit_and n 65471 / 128 ≡ n / 128
 enable_high n small = and_shr n 65471 7 ∙ and_mask (n / 128) 9 ∙ omega (arith, small)
 
-enable_same : (word ie : ℕ) → word < 65536 → ie < 256 → ie / 64 % 2 ≡ 0 → bit_and word 65471 ≡ bit_and ie 65471 → (bit : ℕ) × (bit < 2) × (word ≡ ie + 64 * bit)
+enable_same : (word ie : ℕ) → word < 65536 → ie < 256 → ie / 64 % 2 ≡ 0 → bit_and word 65471 ≡ bit_and ie 65471
+    → (bit : ℕ) × (bit < 2) × (word ≡ ie + 64 * bit)
 enable_same word ie word_small small held same =
     let low : word % 64 ≡ ie % 64 = sym (enable_low word) ∙ ap (λ n. n % 64) same ∙ enable_low ie in
     let high : word / 128 ≡ ie / 128 = sym (enable_high word word_small) ∙ ap (λ n. n / 128) same ∙ enable_high ie (omega (arith, small)) in
@@ -81,14 +82,16 @@ priority_low n = and_mod n 65343 6 ∙ and_mask (n % 64) 6 ∙ omega arith
 priority_high : (n : ℕ) → n < 65536 → bit_and n 65343 / 256 ≡ n / 256
 priority_high n small = and_shr n 65343 8 ∙ and_mask (n / 256) 8 ∙ omega (arith, small)
 
-priority_same : (word ip : ℕ) → word < 65536 → ip < 64 → bit_and word 65343 ≡ bit_and ip 65343 → (bits : ℕ) × (bits < 4) × (word ≡ ip + 64 * bits)
+priority_same : (word ip : ℕ) → word < 65536 → ip < 64 → bit_and word 65343 ≡ bit_and ip 65343
+    → (bits : ℕ) × (bits < 4) × (word ≡ ip + 64 * bits)
 priority_same word ip word_small small same =
     let low : word % 64 ≡ ip % 64 = sym (priority_low word) ∙ ap (λ n. n % 64) same ∙ priority_low ip in
     let high : word / 256 ≡ ip / 256 = sym (priority_high word word_small) ∙ ap (λ n. n / 256) same ∙ priority_high ip (omega (arith, small)) in
     (word / 64, omega (arith, high, small), omega (arith, low, high, small))
 
 -- bits from 2 on
-status_same : (word psw : ℕ) → word < 65536 → psw < 256 → psw % 4 ≡ 0 → bit_and word 65532 ≡ bit_and psw 65532 → (y : ℕ) × (y < 4) × (word ≡ psw + y)
+status_same : (word psw : ℕ) → word < 65536 → psw < 256 → psw % 4 ≡ 0 → bit_and word 65532 ≡ bit_and psw 65532
+    → (y : ℕ) × (y < 4) × (word ≡ psw + y)
 status_same word psw word_small small held same =
     let high : word / 4 * 4 ≡ psw / 4 * 4 = sym (and_high_mask 16 2 (omega arith) word word_small) ∙ same ∙ and_high_mask 16 2 (omega arith) psw (omega (arith, small)) in
     (word % 4, omega arith, omega (arith, high, held))
@@ -101,7 +104,8 @@ ram_small f is at inside = All-get_or (λ b. b < 256) f.ram at 0 (omega (arith, 
 none_left : (place : ℕ) → place < 256 → place - 256 ≡ 0
 none_left place low = omega arith
 
-pub reads_ram : (f : ChipState) → IsChipState f → (place word : ℕ) → place < 256 → Reads (suspended_of f) place word → word ≡ slice_index f.ram place
+pub reads_ram : (f : ChipState) → IsChipState f → (place word : ℕ) → place < 256 → Reads (suspended_of f) place word
+    → word ≡ slice_index f.ram place
 reads_ram f is place word low (small, same) =
     let n = slice_index f.ram place in
     let number : number_of f place ≡ n = cond-true (nat_lt place 256) n (if nat_lt place 512 then register_of f (sfr_of place) else if place == 512 then f.pc % 256 else f.pc / 256) (lt-ltb place 256 low) in
@@ -109,7 +113,8 @@ reads_ram f is place word low (small, same) =
     let byte = ram_small f is place low in
     same_alone word n small (omega (arith, byte)) (ap (bit_and word) (sym mask) ∙ same ∙ ap (λ m. bit_and m (held_by (sfr_of place))) number ∙ ap (bit_and n) mask)
 
-pub reads_status : (f : ChipState) → IsChipState f → (word : ℕ) → Reads (suspended_of f) psw_place word → (y : ℕ) × (y < 4) × (word ≡ f.psw + y)
+pub reads_status : (f : ChipState) → IsChipState f → (word : ℕ) → Reads (suspended_of f) psw_place word
+    → (y : ℕ) × (y < 4) × (word ≡ f.psw + y)
 reads_status f is word (small, same) = status_same word f.psw small is.psw is.psw_held same
 
 -- a register, as the chip reads it, but for PSW with its parity
@@ -129,7 +134,8 @@ register_reads f is Acc word one small same = let byte = is.a in same_alone word
 register_reads f is B word one small same = let byte = is.b in same_alone word f.b small (omega (arith, byte)) same
 register_reads f is Other word one small same = absurd (cc)
 
-pub reads_register : (f : ChipState) → IsChipState f → (place word : ℕ) → IsRegister place → Reads (suspended_of f) place word → MayReadHeld f (sfr_of place) word
+pub reads_register : (f : ChipState) → IsChipState f → (place word : ℕ) → IsRegister place
+    → Reads (suspended_of f) place word → MayReadHeld f (sfr_of place) word
 reads_register f is place word one (small, same) =
     let low = one.low in
     let high = one.high in

@@ -21,8 +21,10 @@ use Rattle.mcs51_resume.specs.Resume.{status_by, status_resumed}
 use Rattle.mcs51_resume.proofs.Masks.{own_masked}
 use Rattle.mcs51_resume.proofs.Numbers.{reads_status}
 
-by_holds : (laws : InstructionLaws) (framed : Bool) (a : Known) (f : ChipState) (first : Option ChipState) (exit : Status) (entry : Option Entry) (psw : ℕ) → IsUnder framed a f first → exit.entry ≡ entry
-    → IsOwnRelation true psw_place 3 entry → psw < 256 → HoldsOfStatus (Some (suspended_of f)) exit psw → HoldsOfStatus (option_map suspended_of first) (status_by a.psw exit entry) psw
+by_holds : (laws : InstructionLaws) (framed : Bool) (a : Known) (f : ChipState) (first : Option ChipState) (exit : Status) (entry : Option Entry) (psw : ℕ)
+    → IsUnder framed a f first → exit.entry ≡ entry
+    → IsOwnRelation true psw_place 3 entry → psw < 256 → HoldsOfStatus (Some (suspended_of f)) exit psw
+    → HoldsOfStatus (option_map suspended_of first) (status_by a.psw exit entry) psw
 by_holds laws framed a f first exit None psw under is form small holds =
     record { bits = holds.bits; entry = subst (λ e. IsFromEntry (option_map suspended_of first) e psw) (sym is) tt }
 by_holds laws framed a f first exit (Some entry) psw under is (place, and_small, and_free, or_small, or_free) small holds =
@@ -49,17 +51,22 @@ by_holds laws framed a f first exit (Some entry) psw under is (place, and_small,
           (laws.known.values.entries.or first_of (option_map (entry_and entry.and) a.psw.entry) (bit_and word entry.and) entry.or (laws.known.values.entries.and first_of a.psw.entry word entry.and related));
     }
 
-pub status_holds : (laws : InstructionLaws) (framed : Bool) (a : Known) (f : ChipState) (first : Option ChipState) (exit : Status) (psw : ℕ) → IsUnder framed a f first
-    → IsOwnRelation true psw_place 3 exit.entry → psw < 256 → HoldsOfStatus (Some (suspended_of f)) exit psw → HoldsOfStatus (option_map suspended_of first) (status_resumed a.psw exit) psw
+pub status_holds : (laws : InstructionLaws) (framed : Bool) (a : Known) (f : ChipState) (first : Option ChipState) (exit : Status) (psw : ℕ)
+    → IsUnder framed a f first
+    → IsOwnRelation true psw_place 3 exit.entry → psw < 256 → HoldsOfStatus (Some (suspended_of f)) exit psw
+    → HoldsOfStatus (option_map suspended_of first) (status_resumed a.psw exit) psw
 status_holds laws framed a f first exit psw under form small holds = by_holds laws framed a f first exit exit.entry psw under refl form small holds
 
 -- its form
-by_form : (framed : Bool) (held exit : Status) (entry : Option Entry) → exit.entry ≡ entry → length held.bits ≡ 6 → length exit.bits ≡ 6 → IsOwnRelation framed psw_place 3 held.entry
-    → IsOwnRelation true psw_place 3 entry → (length (status_by held exit entry).bits ≡ 6) × IsOwnRelation framed psw_place 3 (status_by held exit entry).entry
+by_form : (framed : Bool) (held exit : Status) (entry : Option Entry) → exit.entry ≡ entry → length held.bits ≡ 6
+    → length exit.bits ≡ 6 → IsOwnRelation framed psw_place 3 held.entry
+    → IsOwnRelation true psw_place 3 entry
+    → (length (status_by held exit entry).bits ≡ 6) × IsOwnRelation framed psw_place 3 (status_by held exit entry).entry
 by_form framed held exit None is long exit_long form masks = (exit_long, subst (IsOwnRelation framed psw_place 3) (sym is) (no_own_relation framed psw_place 3))
 by_form framed held exit (Some entry) is long exit_long form masks =
     (masked_length (entry.and / 4) (entry.or / 4) held.bits ∙ long, own_masked framed psw_place 3 entry held.entry masks form)
 
-pub status_form : (framed : Bool) (held exit : Status) → length held.bits ≡ 6 → length exit.bits ≡ 6 → IsOwnRelation framed psw_place 3 held.entry → IsOwnRelation true psw_place 3 exit.entry
+pub status_form : (framed : Bool) (held exit : Status) → length held.bits ≡ 6 → length exit.bits ≡ 6
+    → IsOwnRelation framed psw_place 3 held.entry → IsOwnRelation true psw_place 3 exit.entry
     → (length (status_resumed held exit).bits ≡ 6) × IsOwnRelation framed psw_place 3 (status_resumed held exit).entry
 status_form framed held exit = by_form framed held exit exit.entry refl

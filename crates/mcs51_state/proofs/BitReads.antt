@@ -34,7 +34,8 @@ status_agrees bits psw y held few h =
     (omega arith, (omega arith, subst (Agrees bits) same h))
 
 -- CY is the last one that PSW holds, and its bit 7
-pub carry_is : (framed : Bool) (known : Known) (s : ChipState) (first : Option ChipState) → IsUnder framed known s first → IsBit (carry known) (carry_of s)
+pub carry_is : (framed : Bool) (known : Known) (s : ChipState) (first : Option ChipState) → IsUnder framed known s first
+    → IsBit (carry known) (carry_of s)
 carry_is framed known s first under =
     let held = under.holds.parts.psw in
     let none = under.holds.state.psw_held in

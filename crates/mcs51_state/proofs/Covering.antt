@@ -62,11 +62,13 @@ partwise new held within =
     let psw = and_parts (each_passes is_bit_within new.psw.bits held.psw.bits) (is_entry_within new.psw.entry held.psw.entry) parts.1 in
     assumption (parts, registers, psw)
 
-keeps_more : KnownLaws → (a b : List (ℕ × ℕ)) (s : ChipState) (first : Option ChipState) → ranges_within a b ≡ true → KeepsUntouched a s first → KeepsUntouched b s first
+keeps_more : KnownLaws → (a b : List (ℕ × ℕ)) (s : ChipState) (first : Option ChipState) → ranges_within a b ≡ true
+    → KeepsUntouched a s first → KeepsUntouched b s first
 keeps_more laws a b s None within keeps = tt
 keeps_more laws a b s (Some f) within keeps = λ at none. keeps at (untouched_more laws a b at within none)
 
-pub parts_more : (laws : KnownLaws) (new held : Known) (s : ChipState) (first : Option ChipState) → known_within new held ≡ true → HoldsOfParts new s first → HoldsOfParts held s first
+pub parts_more : (laws : KnownLaws) (new held : Known) (s : ChipState) (first : Option ChipState)
+    → known_within new held ≡ true → HoldsOfParts new s first → HoldsOfParts held s first
 parts_more laws new held s first within holds =
     let parts = partwise new held within in
     let under = option_map suspended_of first in
@@ -89,14 +91,16 @@ parts_more laws new held s first within holds =
       untouched = keeps_more laws new.touched held.touched s first parts.touched holds.untouched;
     }
 
-pub holds_more : (laws : KnownLaws) (new held : Known) (s : ChipState) (first : Option ChipState) → known_within new held ≡ true → HoldsOf new s first → HoldsOf held s first
+pub holds_more : (laws : KnownLaws) (new held : Known) (s : ChipState) (first : Option ChipState)
+    → known_within new held ≡ true → HoldsOf new s first → HoldsOf held s first
 holds_more laws new held s first within holds = record {
   state = holds.state;
   suspended = holds.suspended;
   parts = parts_more laws new held s first within holds.parts;
 }
 
-pub covers_more : (laws : KnownLaws) (node : Node) (new held : Known) (s : ChipState) (first : Option ChipState) → known_within new held ≡ true → Covers node new s first → Covers node held s first
+pub covers_more : (laws : KnownLaws) (node : Node) (new held : Known) (s : ChipState) (first : Option ChipState)
+    → known_within new held ≡ true → Covers node new s first → Covers node held s first
 covers_more laws (At pc calls frame) new held s first within covers = (covers.0, holds_more laws new held s first within covers.1, covers.2)
 covers_more laws (Exit pc frame) new held s first within covers = (covers.0, holds_more laws new held s first within covers.1, covers.2)
 
@@ -163,7 +167,8 @@ any_serves false true = refl
 any_serves true true = refl
 
 -- outside of RAM nothing is held
-beyond_ram : (s f : ChipState) → length s.ram ≡ 256 → length f.ram ≡ 256 → (at : ℕ) → has_address ((0, 255) ∷ []) at ≡ false → get_or s.ram at 0 ≡ get_or f.ram at 0
+beyond_ram : (s f : ChipState) → length s.ram ≡ 256 → length f.ram ≡ 256 → (at : ℕ)
+    → has_address ((0, 255) ∷ []) at ≡ false → get_or s.ram at 0 ≡ get_or f.ram at 0
 beyond_ram s f long long_too at outside = elim (cases_lt 255 at) [
   | inl beyond ↦ get_or-eq_default s.ram 0 (omega (arith, long)) ∙ sym (get_or-eq_default f.ram 0 (omega (arith, long_too)))
   | inr inside ↦
@@ -172,12 +177,14 @@ beyond_ram s f long long_too at outside = elim (cases_lt 255 at) [
       let there : has_address ((0, 255) ∷ []) at ≡ true = rw (from, reaches) refl in absurd (cc)
 ]
 
-all_untouched : (framed : Bool) (s : ChipState) (first : Option ChipState) → IsChipState s → IsSuspendedState first → (framed ≡ false → first ≡ None) → KeepsUntouched (all_touched framed) s first
+all_untouched : (framed : Bool) (s : ChipState) (first : Option ChipState) → IsChipState s → IsSuspendedState first
+    → (framed ≡ false → first ≡ None) → KeepsUntouched (all_touched framed) s first
 all_untouched framed s None state suspended base = tt
 all_untouched true s (Some f) state suspended base = λ at outside. beyond_ram s f state.ram suspended.ram at outside
 all_untouched false s (Some f) state suspended base = let none : Some f ≡ None = base refl in absurd (cc)
 
-top_parts : (laws : KnownLaws) (framed : Bool) (s : ChipState) (first : Option ChipState) → IsChipState s → IsSuspendedState first → (framed ≡ false → first ≡ None) → HoldsOfParts (top_known framed) s first
+top_parts : (laws : KnownLaws) (framed : Bool) (s : ChipState) (first : Option ChipState) → IsChipState s
+    → IsSuspendedState first → (framed ≡ false → first ≡ None) → HoldsOfParts (top_known framed) s first
 top_parts laws framed s first state suspended base = record {
   sp = laws.sets.whole 256 s.sp state.sp;
   a = (laws.sets.whole 256 s.a state.a, tt);
@@ -194,5 +201,6 @@ top_parts laws framed s first state suspended base = record {
   untouched = all_untouched framed s first state suspended base;
 }
 
-pub top_holds : (laws : KnownLaws) (framed : Bool) (s : ChipState) (first : Option ChipState) → IsChipState s → IsSuspendedState first → (framed ≡ false → first ≡ None) → HoldsOf (top_known framed) s first
+pub top_holds : (laws : KnownLaws) (framed : Bool) (s : ChipState) (first : Option ChipState) → IsChipState s
+    → IsSuspendedState first → (framed ≡ false → first ≡ None) → HoldsOf (top_known framed) s first
 top_holds laws framed s first state suspended base = record { state = state; suspended = suspended; parts = top_parts laws framed s first state suspended base }

@@ -59,7 +59,8 @@ module _ (laws : KnownLaws) (framed : Bool) where
   unfolding known_joined
   joined_ordered = united_ordered (join 256) join_cells (join_unions laws.sets laws.cells 256 0 255)
 
-  pub widened_ordered : (marks : List ℕ) → AreMarks 256 marks → IsOrdered (IsKnown framed) known_within (known_widened marks) (top_known framed)
+  pub widened_ordered : (marks : List ℕ) → AreMarks 256 marks
+      → IsOrdered (IsKnown framed) known_within (known_widened marks) (top_known framed)
   unfolding known_widened
   widened_ordered marks below =
       united_ordered (λ h n. widen 256 h n marks) (λ h n. widen_cells h n marks) (widen_unions laws.sets laws.cells 256 0 255 marks below (word_marks marks below))

@@ -27,21 +27,24 @@ ram_held laws known first ram cells stands at inside =
     laws.values.bytes.to_byte first (ram at) (read known.cells.cells at 1) (laws.cells.read_normal 0 255 0 at 1 known.cells.cells cells) (stands.0 at)
     (laws.cells.reads first ram 0 255 0 at 1 known.cells.cells cells (omega (arith, inside)) (inl refl) stands)
 
-pub values_normal : (laws : KnownLaws) (known : Known) → AreCells 0 255 0 known.cells.cells → (set : Form) → IsNormal 256 (ram_values known set)
+pub values_normal : (laws : KnownLaws) (known : Known) → AreCells 0 255 0 known.cells.cells → (set : Form)
+    → IsNormal 256 (ram_values known set)
 unfolding ram_values
 values_normal laws known cells set = any_normal laws (ram_set known) (ram_normal laws known cells) (members 256 set)
 
 -- OF A STATE
 
 -- a relation is read from one address
-list_related : (framed : Bool) (known : Known) (first : Option Suspended) (list : List ℕ) (at v : ℕ) → Contains list at → IsFromEntry first (ram_relation framed known at) v
+list_related : (framed : Bool) (known : Known) (first : Option Suspended) (list : List ℕ) (at v : ℕ) → Contains list at
+    → IsFromEntry first (ram_relation framed known at) v
     → IsFromEntry first (list_relation framed known list) v
 list_related framed known first [] at v there holds = tt
 list_related framed known first (only ∷ []) at v there holds =
     subst (λ n. IsFromEntry first (ram_relation framed known n) v) (sym (in_one only at there)) holds
 list_related framed known first (one ∷ next ∷ rest) at v there holds = tt
 
-pub values_have : (laws : KnownLaws) (framed : Bool) (known : Known) (s : ChipState) (first : Option ChipState) → IsUnder framed known s first
+pub values_have : (laws : KnownLaws) (framed : Bool) (known : Known) (s : ChipState) (first : Option ChipState)
+    → IsUnder framed known s first
     → (set : Form) (at : ℕ) → IsNormal 256 set → Has 256 set at
     → Has 256 (ram_values known set) (get_or s.ram at 0)
 unfolding ram_values

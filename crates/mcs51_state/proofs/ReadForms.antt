@@ -41,12 +41,14 @@ use Rattle.mcs51_state.proofs.RegisterReads.{register_is, unheld_bits}
 -- RELATIONS
 
 -- that of a register is one, where its place is
-own_relation : (framed : Bool) (place unheld : ℕ) (entry : Option Entry) → is_place place ≡ true → IsOwnRelation framed place unheld entry → IsRelation framed entry
+own_relation : (framed : Bool) (place unheld : ℕ) (entry : Option Entry) → is_place place ≡ true
+    → IsOwnRelation framed place unheld entry → IsRelation framed entry
 own_relation framed place unheld None is form = no_relation framed
 own_relation false place unheld (Some entry) is form = absurd form
 own_relation true place unheld (Some entry) is (same, and_small, all_and, or_small, no_or) = (ap is_place same ∙ is, and_small, or_small)
 
-cell_relation : (framed : Bool) (cells : List Cell) (at size : ℕ) (otherwise : Word) → All (IsChipCell framed) cells → IsRelation framed otherwise.entry
+cell_relation : (framed : Bool) (cells : List Cell) (at size : ℕ) (otherwise : Word) → All (IsChipCell framed) cells
+    → IsRelation framed otherwise.entry
     → IsRelation framed (found_word (cell_at cells at size) otherwise).entry
 cell_relation framed [] at size otherwise all other = other
 cell_relation framed (cell ∷ cells) at size otherwise all other =
@@ -54,7 +56,8 @@ cell_relation framed (cell ∷ cells) at size otherwise all other =
     (λ here. (All-head (IsChipCell framed) cell cells all).entry)
     (λ there. cell_relation framed cells at size otherwise (All-tail (IsChipCell framed) cell cells all) other)
 
-read_relation : (framed : Bool) (cells : List Cell) (at size : ℕ) → All (IsChipCell framed) cells → IsRelation framed (read cells at size).entry
+read_relation : (framed : Bool) (cells : List Cell) (at size : ℕ) → All (IsChipCell framed) cells
+    → IsRelation framed (read cells at size).entry
 unfolding read
 read_relation framed cells at size all = cell_relation framed cells at size (put_together cells at size) all (no_relation framed)
 
@@ -64,7 +67,8 @@ kept_relation true touched at inside =
     let place : is_place at ≡ true = ap (λ ram. ram || is_remembered (sfr_of at) || (at == 512) || (at == 513)) (lt-ltb at 256 inside) in
     cond_both (not (has_address touched at)) (Some (kept_from at)) None (IsRelation true) (λ none. (place, omega arith, omega arith)) (λ some. tt)
 
-either_relation : (framed : Bool) (own otherwise : Option Entry) → IsRelation framed own → IsRelation framed otherwise → IsRelation framed (found_or own otherwise)
+either_relation : (framed : Bool) (own otherwise : Option Entry) → IsRelation framed own → IsRelation framed otherwise
+    → IsRelation framed (found_or own otherwise)
 either_relation framed None otherwise own other = other
 either_relation framed (Some entry) otherwise own other = own
 
@@ -78,7 +82,8 @@ list_form framed known form (at ∷ next ∷ rest) small = no_relation framed
 
 -- BYTES
 
-register_form : (laws : KnownLaws) (framed : Bool) (known : Known) → IsKnown framed known → (sfr : Sfr) → IsByte framed (register_byte known sfr)
+register_form : (laws : KnownLaws) (framed : Bool) (known : Known) → IsKnown framed known → (sfr : Sfr)
+    → IsByte framed (register_byte known sfr)
 register_form laws framed known form Sp = record { normal = form.sp; entry = no_relation framed }
 register_form laws framed known form Dpl = form.dpl
 register_form laws framed known form Dph = form.dph
@@ -100,7 +105,8 @@ byte_form laws framed known form (InSfr register) are = register_form laws frame
 
 pub byte_is : (laws : KnownLaws) (framed : Bool) (known : Known) (s : ChipState) (first : Option ChipState) → IsUnder framed known s first
     → (addresses : Addresses) (address : Address) (x : ℕ)
-    → MayStandAt addresses address → AreAddresses addresses → MayRead s address x → HoldsOfByte (option_map suspended_of first) (read_byte framed known addresses) x
+    → MayStandAt addresses address → AreAddresses addresses → MayRead s address x
+    → HoldsOfByte (option_map suspended_of first) (read_byte framed known addresses) x
 unfolding read_byte
 byte_is laws framed known s first under (InRam set) (AtRam at) x stands are may =
     subst (HoldsOfByte (option_map suspended_of first) (read_byte framed known (InRam set))) (sym may) (ram_is laws framed known s first under set at are stands)
@@ -111,7 +117,8 @@ byte_is laws framed known s first under (InSfr register) (AtSfr at) x stands are
 
 -- BITS
 
-set_bit : (laws : KnownLaws) (set : Form) (x place : ℕ) → IsNormal 256 set → Has 256 set x → place < 8 → IsBit (known_bit 8 place set) (bit_at x place)
+set_bit : (laws : KnownLaws) (set : Form) (x place : ℕ) → IsNormal 256 set → Has 256 set x → place < 8
+    → IsBit (known_bit 8 place set) (bit_at x place)
 set_bit laws set x place normal has small =
     subst (λ bit. IsBit bit (bit_at x place)) (known_is set place small) (bits_at (known_bits 8 set) place x (laws.bits.known 8 x set normal has))
 
@@ -139,7 +146,8 @@ sfr_bit laws framed known s first under Other x place may small = plain_bit laws
 
 pub bit_is : (laws : KnownLaws) (framed : Bool) (known : Known) (s : ChipState) (first : Option ChipState) → IsUnder framed known s first
     → (addresses : Addresses) (address : Address) (x place : ℕ)
-    → MayStandAt addresses address → AreAddresses addresses → MayRead s address x → place < 8 → IsBit (read_bit known addresses place) (bit_at x place)
+    → MayStandAt addresses address → AreAddresses addresses → MayRead s address x → place < 8
+    → IsBit (read_bit known addresses place) (bit_at x place)
 unfolding read_bit
 bit_is laws framed known s first under (InRam set) (AtRam at) x place stands are may small =
     set_bit laws (ram_values known set) x place (values_normal laws known under.form.cells set)

@@ -23,7 +23,8 @@ not_true : (b : Bool) → not b ≡ true → b ≡ false
 not_true true e = absurd (cc)
 not_true false e = refl
 
-kept_holds : (touched : List (ℕ × ℕ)) (s f : ChipState) (at : ℕ) → KeepsUntouched touched s (Some f) → at < 256 → get_or s.ram at 0 < 256 → not (has_address touched at) ≡ true
+kept_holds : (touched : List (ℕ × ℕ)) (s f : ChipState) (at : ℕ) → KeepsUntouched touched s (Some f) → at < 256
+    → get_or s.ram at 0 < 256 → not (has_address touched at) ≡ true
     → IsFromEntry (Some (suspended_of f)) (Some (kept_from at)) (get_or s.ram at 0)
 kept_holds touched s f at keeps inside small none =
     let word = get_or f.ram at 0 in
@@ -50,7 +51,8 @@ found_is first (Some entry) otherwise v own other = own
 -- PSW
 
 -- Each mask leaves the two bits as they are, and those may be any of the suspended state.
-status_wider : (f : Suspended) (entry : Entry) (psw y : ℕ) → f.held psw_place ≡ 65532 → IsOwnRelation true psw_place 3 (Some entry) → psw % 4 ≡ 0 → y < 4
+status_wider : (f : Suspended) (entry : Entry) (psw y : ℕ) → f.held psw_place ≡ 65532
+    → IsOwnRelation true psw_place 3 (Some entry) → psw % 4 ≡ 0 → y < 4
     → IsFromEntry (Some f) (Some entry) psw → IsFromEntry (Some f) (Some entry) (psw + y)
 status_wider f entry psw y held (place, and_small, low_and, or_small, low_or) none few (word, (word_small, reads), is) =
     let wider = word / 4 * 4 + y in
@@ -75,7 +77,8 @@ status_wider f entry psw y held (place, and_small, low_and, or_small, low_or) no
     let whole : psw + y ≡ wide = omega (arith, low, high, none) in
     (wider, (wider_small, same_reads ∙ reads), whole)
 
-pub status_is : (framed : Bool) (first : Option ChipState) (entry : Option Entry) (psw y : ℕ) → IsOwnRelation framed psw_place 3 entry → psw % 4 ≡ 0 → y < 4
+pub status_is : (framed : Bool) (first : Option ChipState) (entry : Option Entry) (psw y : ℕ)
+    → IsOwnRelation framed psw_place 3 entry → psw % 4 ≡ 0 → y < 4
     → IsFromEntry (option_map suspended_of first) entry psw → IsFromEntry (option_map suspended_of first) entry (psw + y)
 status_is framed first None psw y form none few holds = tt
 status_is false first (Some entry) psw y form none few holds = absurd form

@@ -22,7 +22,8 @@ pub unheld_bits : (psw bit p x : ℕ) → bit < 2 → p < 2 → x ≡ psw + 2 * 
 unheld_bits psw bit p x few less is = (2 * bit + p, omega (arith, few, less), omega (arith, is))
 
 -- PSW as a byte, whatever those bits are
-pub status_held : (laws : KnownLaws) (framed : Bool) (known : Known) (s : ChipState) (first : Option ChipState) → IsUnder framed known s first
+pub status_held : (laws : KnownLaws) (framed : Bool) (known : Known) (s : ChipState) (first : Option ChipState)
+    → IsUnder framed known s first
     → (x y : ℕ) → y < 4 → x ≡ s.psw + y → HoldsOfByte (option_map suspended_of first) (status_byte known.psw) x
 status_held laws framed known s first under x y less is =
     let held = under.holds.parts.psw in
@@ -33,7 +34,8 @@ status_held laws framed known s first under x y less is =
       status_is framed first known.psw.entry s.psw y under.form.psw none less held.entry,
     )
 
-pub register_is : (laws : KnownLaws) (framed : Bool) (known : Known) (s : ChipState) (first : Option ChipState) → IsUnder framed known s first
+pub register_is : (laws : KnownLaws) (framed : Bool) (known : Known) (s : ChipState) (first : Option ChipState)
+    → IsUnder framed known s first
     → (sfr : Sfr) (x : ℕ) → MayReadSfr s sfr x
     → HoldsOfByte (option_map suspended_of first) (register_byte known sfr) x
 register_is laws framed known s first under Sp x is = (subst (Has 256 known.sp) (sym is) under.holds.parts.sp, tt)

@@ -24,7 +24,8 @@ use Rattle.mcs51_state.specs.ShowingFacts.{none_shown, one_shown}
 use Rattle.mcs51_state.specs.Showing.{AreShown, access_of, address_accesses, pointer_accesses}
 use Rattle.mcs51_state.proofs.Standing.{pointers_have}
 
-access_shows : (laws : KnownLaws) (pc : ℕ) (write : Bool) (addresses : Addresses) (address : Address) → MayStandAt addresses address → AreAddresses addresses
+access_shows : (laws : KnownLaws) (pc : ℕ) (write : Bool) (addresses : Addresses) (address : Address)
+    → MayStandAt addresses address → AreAddresses addresses
     → Shows (access_of pc write addresses) (accessed pc (Internal write address))
 access_shows laws pc write (InRam set) (AtRam at) stands are = (refl, refl, refl, refl, stands)
 access_shows laws pc write (InRam set) (AtSfr at) stands are = absurd stands
@@ -32,19 +33,22 @@ access_shows laws pc write (InSfr register) (AtRam at) stands are = absurd stand
 access_shows laws pc write (InSfr register) (AtSfr at) stands are =
     (refl, refl, refl, refl, subst (Has 256 (single register)) (sym stands) (laws.sets.single 256 register are.1).1)
 
-pub operand_shown : (laws : KnownLaws) (pc : ℕ) (write : Bool) (addresses : Addresses) (address : Address) → MayStandAt addresses address → AreAddresses addresses
+pub operand_shown : (laws : KnownLaws) (pc : ℕ) (write : Bool) (addresses : Addresses) (address : Address)
+    → MayStandAt addresses address → AreAddresses addresses
     → AreShown (access_of pc write addresses ∷ []) pc (Internal write address ∷ [])
 operand_shown laws pc write addresses address stands are =
     one_shown (access_of pc write addresses) pc (Internal write address) (access_shows laws pc write addresses address stands are)
 
-pub pointer_shown : (laws : KnownLaws) (framed : Bool) (pc : ℕ) (known : Known) (s : ChipState) (first : Option ChipState) → IsUnder framed known s first → (w : Working)
+pub pointer_shown : (laws : KnownLaws) (framed : Bool) (pc : ℕ) (known : Known) (s : ChipState) (first : Option ChipState)
+    → IsUnder framed known s first → (w : Working)
     → AreShown (pointer_accesses pc known w) pc (pointer_reads s w)
 pointer_shown laws framed pc known s first under (Indirect i) =
     one_shown (access_of pc false (InRam (pointer_addresses known i))) pc (Internal false (AtRam (pointer_address s i)))
     (refl, refl, refl, refl, pointers_have laws framed known s first under i)
 pointer_shown laws framed pc known s first under (Register n) = none_shown [] pc
 
-pub address_shown : (laws : KnownLaws) (framed : Bool) (pc : ℕ) (known : Known) (s : ChipState) (first : Option ChipState) → IsUnder framed known s first → (m : Memory)
+pub address_shown : (laws : KnownLaws) (framed : Bool) (pc : ℕ) (known : Known) (s : ChipState) (first : Option ChipState)
+    → IsUnder framed known s first → (m : Memory)
     → AreShown (address_accesses pc known m) pc (address_reads s m)
 address_shown laws framed pc known s first under (Direct direct) = none_shown [] pc
 address_shown laws framed pc known s first under (InWorking w) = pointer_shown laws framed pc known s first under w

@@ -104,7 +104,8 @@ module _ (framed : Bool) where
   sp_part = record { of = λ known. known.sp; formed = λ known form. form.sp }
 
   -- one of the registers that are bytes with a relation
-  abbrev pub byte_part : (register : Known → Byte) → ((known : Known) → IsKnown framed known → IsNormalByte (register known)) → Part (IsKnown framed) IsNormalByte
+  abbrev pub byte_part : (register : Known → Byte)
+      → ((known : Known) → IsKnown framed known → IsNormalByte (register known)) → Part (IsKnown framed) IsNormalByte
   byte_part register formed = record { of = register; formed = formed }
 
   abbrev pub bits_part : Part (IsKnown framed) (AreEach {A = Tri} 6 IsAny)
@@ -130,7 +131,8 @@ module _ (framed : Bool) where
 
 -- WHAT IS MADE OF TWO
 
-common_own : (framed : Bool) (place unheld : ℕ) (a b : Option Entry) → IsOwnRelation framed place unheld a → IsOwnRelation framed place unheld (common_entry a b)
+common_own : (framed : Bool) (place unheld : ℕ) (a b : Option Entry) → IsOwnRelation framed place unheld a
+    → IsOwnRelation framed place unheld (common_entry a b)
 common_own framed place unheld a b own = common_entry_keeps (IsOwnRelation framed place unheld) a b (no_own_relation framed place unheld) own
 
 module _ (laws : KnownLaws) (sets : Form → Form → Form) (cells : List Cell → List Cell → List Cell) (unions : AreUnions 256 0 255 sets cells) where

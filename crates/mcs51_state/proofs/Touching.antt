@@ -22,20 +22,23 @@ pub record Grows (before after : List (ℕ × ℕ)) : Type 0 where
   pub form : AreRanges 0 255 after
   pub keeps : (b : ℕ) → has_address before b ≡ true → has_address after b ≡ true
 
-range_grows : (laws : KnownLaws) (low high : ℕ) (touched : List (ℕ × ℕ)) → low ≤ high → high ≤ 255 → AreRanges 0 255 touched → Grows touched (with_range low high touched)
+range_grows : (laws : KnownLaws) (low high : ℕ) (touched : List (ℕ × ℕ)) → low ≤ high → high ≤ 255
+    → AreRanges 0 255 touched → Grows touched (with_range low high touched)
 range_grows laws low high touched up top are = record {
   form = laws.ranges.add_form 0 255 low high touched (omega arith) up top are;
   keeps = λ b has. laws.ranges.add 0 255 b low high touched up are ∙ or_left (has_address touched b) (lies_in (b, b) (low, high)) has;
 }
 
-range_has : (laws : KnownLaws) (low high b : ℕ) (touched : List (ℕ × ℕ)) → AreRanges 0 255 touched → low ≤ b → b ≤ high → has_address (with_range low high touched) b ≡ true
+range_has : (laws : KnownLaws) (low high b : ℕ) (touched : List (ℕ × ℕ)) → AreRanges 0 255 touched → low ≤ b → b ≤ high
+    → has_address (with_range low high touched) b ≡ true
 range_has laws low high b touched are h k = laws.ranges.add 0 255 b low high touched (omega (arith, h, k)) are
     ∙ or_right (has_address touched b) (lies_in (b, b) (low, high)) (and_from (nat_le low b) (nat_le b high) (le-leb low b h) (le-leb b high k))
 
 grows_on : (one two three : List (ℕ × ℕ)) → Grows one two → Grows two three → Grows one three
 grows_on one two three h k = record { form = k.form; keeps = λ b has. k.keeps b (h.keeps b has) }
 
-each_grows : (laws : KnownLaws) (list : List ℕ) (touched : List (ℕ × ℕ)) → AreLow list → AreRanges 0 255 touched → Grows touched (touch_each list touched)
+each_grows : (laws : KnownLaws) (list : List ℕ) (touched : List (ℕ × ℕ)) → AreLow list → AreRanges 0 255 touched
+    → Grows touched (touch_each list touched)
 each_grows laws [] touched low are = record { form = are; keeps = λ b has. has }
 each_grows laws (at ∷ rest) touched low are =
     let one = range_grows laws at at touched (omega arith) (omega (arith, first_low at rest low)) are in
@@ -54,7 +57,8 @@ each_touched laws b (at ∷ rest) touched low are there =
       | inr later ↦ each_touched laws b rest (with_range at at touched) (rest_low at rest low) one.form later
     ]
 
-pub behind_grows : (laws : KnownLaws) (at : Form) (touched : List (ℕ × ℕ)) → IsNormal 256 at → AreRanges 0 255 touched → Grows touched (touched_behind at touched)
+pub behind_grows : (laws : KnownLaws) (at : Form) (touched : List (ℕ × ℕ)) → IsNormal 256 at → AreRanges 0 255 touched
+    → Grows touched (touched_behind at touched)
 behind_grows laws (Values xs) touched normal are = each_grows laws xs touched (λ v h. laws.sets.below 256 v (Values xs) normal h) are
 behind_grows laws (Run p) touched normal are =
     cond_both (nat_le 256 (p.base + reach p)) (with_range 0 255 touched) (with_range p.base (p.base + reach p) touched) (Grows touched)
@@ -62,7 +66,8 @@ behind_grows laws (Run p) touched normal are =
     (λ e. let once : p.base + reach p < 256 = leb-false 256 (p.base + reach p) e in
     range_grows laws p.base (p.base + reach p) touched (omega arith) (omega (arith, once)) are)
 
-pub behind_touched : (laws : KnownLaws) (b : ℕ) (at : Form) (touched : List (ℕ × ℕ)) → IsNormal 256 at → AreRanges 0 255 touched → Has 256 at b
+pub behind_touched : (laws : KnownLaws) (b : ℕ) (at : Form) (touched : List (ℕ × ℕ)) → IsNormal 256 at
+    → AreRanges 0 255 touched → Has 256 at b
     → has_address (touched_behind at touched) b ≡ true
 behind_touched laws b (Values xs) touched normal are there = each_touched laws b xs touched (λ v h. laws.sets.below 256 v (Values xs) normal h) are there
 behind_touched laws b (Run p) touched normal are there =
@@ -85,8 +90,10 @@ pub touched_none : (framed : Bool) (at : Form) (touched : List (ℕ × ℕ)) →
 touched_none true at touched none base = absurd (cc)
 touched_none false at touched none base = none base
 
-stays_untouched : (laws : KnownLaws) (s f : ChipState) (at : Form) (touched : List (ℕ × ℕ)) (address x b : ℕ) → IsNormal 256 at → AreRanges 0 255 touched → Has 256 at address
-    → KeepsUntouched touched s (Some f) → has_address (touched_behind at touched) b ≡ false → slice_index (set s.ram address x) b ≡ slice_index f.ram b
+stays_untouched : (laws : KnownLaws) (s f : ChipState) (at : Form) (touched : List (ℕ × ℕ)) (address x b : ℕ)
+    → IsNormal 256 at → AreRanges 0 255 touched → Has 256 at address
+    → KeepsUntouched touched s (Some f) → has_address (touched_behind at touched) b ≡ false
+    → slice_index (set s.ram address x) b ≡ slice_index f.ram b
 stays_untouched laws s f at touched address x b normal are there keeps none =
     let grows = behind_grows laws at touched normal are in
     let before : has_address touched b ≡ false = false_from_ne_true (has_address touched b) (λ has. both_ways (has_address (touched_behind at touched) b) none (grows.keeps b has)) in

@@ -101,7 +101,8 @@ bit_past w h r u a o hz uz rz =
     let three : max 0 (min o 0) ≡ 0 = omega arith in
     rw (hz, uz, rz) (ap (λ n. max (min n (max a 0)) (min o 0)) one ∙ ap (λ n. max n (min o 0)) two ∙ three)
 
-bit_either : (w h r u a o x : ℕ) → w < 2 → r < 2 → a < 2 → o < 2 → u + h ≡ 1 → x ≡ max (min w a) o → (u ≡ 0 → r ≡ x) → made_bit w h r u a o ≡ r
+bit_either : (w h r u a o x : ℕ) → w < 2 → r < 2 → a < 2 → o < 2 → u + h ≡ 1 → x ≡ max (min w a) o → (u ≡ 0 → r ≡ x)
+    → made_bit w h r u a o ≡ r
 bit_either w h r zero a o x wb rb ab ob parts is same =
     let one : h ≡ 1 = omega (arith, parts) in
     subst (λ n. made_bit w n r 0 a o ≡ r) (sym one) (bit_held w r a o wb ob (sym is ∙ sym (same refl)))

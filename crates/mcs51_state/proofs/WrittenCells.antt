@@ -48,7 +48,8 @@ inserted P cell (c ∷ cs) one all = cond_both (nat_lt cell.place c.place) (cell
     (λ e. All-cons P cell (c ∷ cs) one all)
     (λ e. All-cons P c (insert cell cs) (All-head P c cs all) (inserted P cell cs one (All-tail P c cs all)))
 
-with_cell_all : (P : Cell → Type 0) (lo hi : ℕ) (cell : Cell) (cells : List Cell) → P cell → All P cells → All P (with_cell lo hi cell cells)
+with_cell_all : (P : Cell → Type 0) (lo hi : ℕ) (cell : Cell) (cells : List Cell) → P cell → All P cells
+    → All P (with_cell lo hi cell cells)
 with_cell_all P lo hi cell cells one all =
     cond_both (nat_lt cell.place lo || nat_lt hi (cell.place + cell.size - 1) || is_nothing cell.size cell.word) cells (insert cell cells) (All P)
     (λ e. all) (λ e. inserted P cell cells one all)
@@ -79,7 +80,8 @@ one_form laws framed map at word is are =
       each = written_each framed map at word is are.each;
     }
 
-found_entry : (framed : Bool) (at : ℕ) (otherwise : Word) (cells : List Cell) → IsRelation framed otherwise.entry → All (IsChipCell framed) cells
+found_entry : (framed : Bool) (at : ℕ) (otherwise : Word) (cells : List Cell) → IsRelation framed otherwise.entry
+    → All (IsChipCell framed) cells
     → IsRelation framed (found_or (cell_at cells at 1) otherwise).entry
 found_entry framed at otherwise [] none all = none
 found_entry framed at otherwise (cell ∷ cells) none all =
@@ -106,12 +108,14 @@ joined_one_form : (laws : KnownLaws) (framed : Bool) (map : CellMap) (at : ℕ) 
     → AreByteCells framed (cell_joined map at word)
 joined_one_form laws framed map at word is are = one_form laws framed map at (word_join (read map.cells at 1) word) (joined_stored laws framed map at word is are) are
 
-joined_form : (laws : KnownLaws) (framed : Bool) (map : CellMap) (list : List ℕ) (word : Word) → IsStored framed word → AreByteCells framed map
+joined_form : (laws : KnownLaws) (framed : Bool) (map : CellMap) (list : List ℕ) (word : Word) → IsStored framed word
+    → AreByteCells framed map
     → AreByteCells framed (cells_joined map list word)
 joined_form laws framed map [] word is are = are
 joined_form laws framed map (at ∷ rest) word is are = joined_form laws framed (cell_joined map at word) rest word is (joined_one_form laws framed map at word is are)
 
-pub cells_form : (laws : KnownLaws) (framed : Bool) (map : CellMap) (list : List ℕ) (word : Word) → IsStored framed word → AreByteCells framed map
+pub cells_form : (laws : KnownLaws) (framed : Bool) (map : CellMap) (list : List ℕ) (word : Word) → IsStored framed word
+    → AreByteCells framed map
     → AreByteCells framed (cells_written map list word)
 cells_form laws framed map [] word is are = are
 cells_form laws framed map (at ∷ []) word is are = one_form laws framed map at word is are
@@ -145,7 +149,8 @@ stays_under laws first framed ram map at word low is are stands =
     let form = joined_one_form laws framed map at word is are in
     laws.cells.agree first (written ram at 1 (ram at)) ram 0 255 0 (cell_joined map at word).cells (omega arith) form.cells stands.0 (λ b from to. written_same ram at b (stands.0 at)) behind
 
-joins_under : (laws : KnownLaws) (first : Option Suspended) (framed : Bool) (ram : ℕ → ℕ) (map : CellMap) (at v : ℕ) (word : Word) → at < 256
+joins_under : (laws : KnownLaws) (first : Option Suspended) (framed : Bool) (ram : ℕ → ℕ) (map : CellMap) (at v : ℕ) (word : Word)
+    → at < 256
     → IsStored framed word → AreByteCells framed map
     → StandsUnder first map.cells ram → HoldsOfWord first word v → StandsUnder first (cell_joined map at word).cells (written ram at 1 v)
 joins_under laws first framed ram map at v word low is are stands holds =
@@ -163,7 +168,8 @@ rest_low at rest low v h = low v (suc h.0, omega (arith, h.1), h.2)
 pub first_low : (at : ℕ) (rest : List ℕ) → AreLow (at ∷ rest) → at < 256
 first_low at rest low = low at (0, omega arith, refl)
 
-stay_under : (laws : KnownLaws) (first : Option Suspended) (framed : Bool) (ram : ℕ → ℕ) (map : CellMap) (list : List ℕ) (word : Word) → AreLow list
+stay_under : (laws : KnownLaws) (first : Option Suspended) (framed : Bool) (ram : ℕ → ℕ) (map : CellMap) (list : List ℕ) (word : Word)
+    → AreLow list
     → IsStored framed word → AreByteCells framed map
     → StandsUnder first map.cells ram → StandsUnder first (cells_joined map list word).cells ram
 stay_under laws first framed ram map [] word low is are stands = stands
@@ -208,7 +214,8 @@ ram_small s is at = elim (cases_lt at 256) [
   | inr high ↦ let past : get_or s.ram at 0 ≡ 0 = get_or_past s.ram at 0 (omega (arith, is.ram, high)) in omega (arith, past)
 ]
 
-set_is_written : (ram : List ℕ) (address v b : ℕ) → v < 256 → address < length ram → written (slice_index ram) address 1 v b ≡ slice_index (set ram address v) b
+set_is_written : (ram : List ℕ) (address v b : ℕ) → v < 256 → address < length ram
+    → written (slice_index ram) address 1 v b ≡ slice_index (set ram address v) b
 unfolding written
 set_is_written ram address v b small inside = elim (cases_eq b address) [
   | inl same ↦
@@ -217,9 +224,11 @@ set_is_written ram address v b small inside = elim (cases_eq b address) [
   | inr other ↦ cond-false (b == address) (v % 256) (get_or ram b 0) (ne_eqb b address other) ∙ sym (get_or-set_other ram address b v 0 other)
 ]
 
-pub cells_cover : (laws : KnownLaws) (first : Option Suspended) (framed : Bool) (s after : ChipState) (map : CellMap) (list : List ℕ) (address v : ℕ) (word : Word) → AreLow list → Contains list address
+pub cells_cover : (laws : KnownLaws) (first : Option Suspended) (framed : Bool) (s after : ChipState) (map : CellMap) (list : List ℕ) (address v : ℕ) (word : Word)
+    → AreLow list → Contains list address
     → IsChipState s → IsChipState after → after.ram ≡ set s.ram address v → v < 256 → IsStored framed word → AreByteCells framed map
-    → StandsUnder first map.cells (slice_index s.ram) → HoldsOfWord first word v → StandsUnder first (cells_written map list word).cells (slice_index after.ram)
+    → StandsUnder first map.cells (slice_index s.ram) → HoldsOfWord first word v
+    → StandsUnder first (cells_written map list word).cells (slice_index after.ram)
 cells_cover laws first framed s after map list address v word low there state state_after ram_is small is are stands holds =
     let form = cells_form laws framed map list word is are in
     let inside : address < length s.ram = omega (arith, state.ram, low address there) in

@@ -55,12 +55,14 @@ carry_form is_written (Some fact) is = cond_both (is_written fact.compared) None
 pub known_cells : (framed : Bool) (known : Known) → IsKnown framed known → AreByteCells framed known.cells
 known_cells framed known form = record { from = form.from; up_to = form.up_to; cells = form.cells; each = form.each_cell }
 
-pub stored_cells : (laws : KnownLaws) (framed : Bool) (at : Form) (byte : Byte) → IsByte framed byte → (known : Known) → IsKnown framed known
+pub stored_cells : (laws : KnownLaws) (framed : Bool) (at : Form) (byte : Byte) → IsByte framed byte → (known : Known)
+    → IsKnown framed known
     → AreByteCells framed (cells_written known.cells (members 256 at) (word_of_byte byte))
 stored_cells laws framed at byte is known form =
     cells_form laws framed known.cells (members 256 at) (word_of_byte byte) (byte_stored laws framed byte is) (known_cells framed known form)
 
-pub ram_form : (laws : KnownLaws) (framed : Bool) (at : Form) (byte : Byte) → IsNormal 256 at → IsByte framed byte → KeepsForm framed (ram_written framed at byte)
+pub ram_form : (laws : KnownLaws) (framed : Bool) (at : Form) (byte : Byte) → IsNormal 256 at → IsByte framed byte
+    → KeepsForm framed (ram_written framed at byte)
 unfolding ram_written
 ram_form laws framed at byte normal is known form =
     let cells = stored_cells laws framed at byte is known form in
@@ -86,7 +88,8 @@ entry_own framed place unheld (Some entry) below is =
     (λ e. masks_own framed place unheld entry below (eqb-true entry.place place e) is)
     (λ e. no_own_relation framed place unheld)
 
-pub own_normal : (laws : KnownLaws) (unheld : ℕ) (others : List ℕ) (set_so : Form) → 1 ≤ length others → ((v : ℕ) → Contains others v → v < 256) → IsNormal 256 set_so
+pub own_normal : (laws : KnownLaws) (unheld : ℕ) (others : List ℕ) (set_so : Form) → 1 ≤ length others
+    → ((v : ℕ) → Contains others v → v < 256) → IsNormal 256 set_so
     → IsNormal 256 (logic_set 8 Or (logic_set 8 And set_so (single (255 - unheld))) (gather 256 others))
 own_normal laws unheld others set_so some low normal =
     laws.bits.logic_normal 8 Or (logic_set 8 And set_so (single (255 - unheld))) (gather 256 others)
@@ -109,7 +112,8 @@ ie_bytes = each_low ie_others refl
 pub ip_bytes : (v : ℕ) → Contains ip_others v → v < 256
 ip_bytes = each_low ip_others refl
 
-pub status_form : (framed : Bool) (status : Status) → length status.bits ≡ 6 → IsOwnRelation framed psw_place 3 status.entry → KeepsForm framed (status_written status)
+pub status_form : (framed : Bool) (status : Status) → length status.bits ≡ 6
+    → IsOwnRelation framed psw_place 3 status.entry → KeepsForm framed (status_written status)
 status_form framed status count own known form = let none : IsCarry None = tt in assumption (form, count, own, none)
 
 pub six_bits : (set_so : Form) → length (drop 2 (known_bits 8 set_so)) ≡ 6
@@ -126,10 +130,12 @@ accumulator_form framed byte is known form =
 pub sp_form : (framed : Bool) (set_so : Form) → IsNormal 256 set_so → KeepsForm framed (λ known. record known { sp = set_so })
 sp_form framed set_so normal known form = assumption (form, normal)
 
-pub data_pointer_form : (framed : Bool) (low high : Byte) → IsByte framed low → IsByte framed high → KeepsForm framed (data_pointer_written low high)
+pub data_pointer_form : (framed : Bool) (low high : Byte) → IsByte framed low → IsByte framed high
+    → KeepsForm framed (data_pointer_written low high)
 data_pointer_form framed low high is also known form = assumption (form, is, also)
 
-pub register_form : (laws : KnownLaws) (framed : Bool) (register : Sfr) (byte : Byte) → IsByte framed byte → KeepsForm framed (register_written register byte)
+pub register_form : (laws : KnownLaws) (framed : Bool) (register : Sfr) (byte : Byte) → IsByte framed byte
+    → KeepsForm framed (register_written register byte)
 unfolding register_written
 register_form laws framed Sp byte is known form = sp_form framed byte.set is.normal known form
 register_form laws framed Dpl byte is known form = assumption (form, is)
@@ -158,7 +164,8 @@ pub carry_set_form : (framed : Bool) (carry : Tri) → KeepsForm framed (carry_s
 carry_set_form framed carry known form =
     status_form framed (record { bits = set known.psw.bits 5 carry; entry = None }) (length-set known.psw.bits 5 carry ∙ form.bits) (no_own_relation framed psw_place 3) known form
 
-pub three_long : (bits : List Tri) (carry half overflow : Tri) → length bits ≡ 6 → length (set (set (set bits 0 overflow) 4 half) 5 carry) ≡ 6
+pub three_long : (bits : List Tri) (carry half overflow : Tri) → length bits ≡ 6
+    → length (set (set (set bits 0 overflow) 4 half) 5 carry) ≡ 6
 three_long bits carry half overflow six =
     let one = set bits 0 overflow in
     let two = set one 4 half in
@@ -177,7 +184,8 @@ push_form laws framed byte is known form =
     let normal = raised_normal laws known.sp form.sp in
     ram_form laws framed (raised known.sp) byte normal is (record known { sp = raised known.sp }) (sp_form framed (raised known.sp) normal known form)
 
-pub pair_form : (laws : KnownLaws) (framed : Bool) (low high : Byte) → IsByte framed low → IsByte framed high → KeepsForm framed (pair_pushed framed low high)
+pub pair_form : (laws : KnownLaws) (framed : Bool) (low high : Byte) → IsByte framed low → IsByte framed high
+    → KeepsForm framed (pair_pushed framed low high)
 pair_form laws framed low high is also known form = push_form laws framed high also (byte_pushed framed low known) (push_form laws framed low is known form)
 
 pub number_form : (laws : KnownLaws) (framed : Bool) (n : ℕ) → n < 256 → IsByte framed (byte_of (single n))

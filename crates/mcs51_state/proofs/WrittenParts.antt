@@ -55,7 +55,8 @@ value_below laws framed first byte x is = laws.sets.below 256 x byte.set is.form
 
 -- FACTS
 
-linear_ram : (laws : KnownLaws) (at : Form) (fact : Option LinearFact) (s : ChipState) (address x : ℕ) → Has 256 at address → HoldsOfLinear fact s
+linear_ram : (laws : KnownLaws) (at : Form) (fact : Option LinearFact) (s : ChipState) (address x : ℕ)
+    → Has 256 at address → HoldsOfLinear fact s
     → HoldsOfLinear (linear_beside at fact) (record s { ram = set s.ram address x })
 linear_ram laws at None s address x there holds = tt
 linear_ram laws at (Some fact) s address x there holds =
@@ -64,25 +65,29 @@ linear_ram laws at (Some fact) s address x there holds =
     (λ e. let other : fact.place ≡ address → ⊥ = λ same. both_ways (is_in 256 at fact.place) e (subst (λ n. is_in 256 at n ≡ true) (sym same) (laws.sets.member 256 address at there)) in
     holds ∙ ap (λ v. (fact.factor * v + fact.added) % 256) (sym (get_or-set_other s.ram address fact.place x 0 other)))
 
-compared_beside : (laws : KnownLaws) (at : Form) (compared : Compared) (s : ChipState) (address x : ℕ) → Has 256 at address → is_compared_in at compared ≡ false
+compared_beside : (laws : KnownLaws) (at : Form) (compared : Compared) (s : ChipState) (address x : ℕ)
+    → Has 256 at address → is_compared_in at compared ≡ false
     → compared_in compared s ≡ compared_in compared (record s { ram = set s.ram address x })
 compared_beside laws at Accumulator s address x there e = refl
 compared_beside laws at (Ram place) s address x there e =
     let other : place ≡ address → ⊥ = λ same. both_ways (is_in 256 at place) e (subst (λ n. is_in 256 at n ≡ true) (sym same) (laws.sets.member 256 address at there)) in
     sym (get_or-set_other s.ram address place x 0 other)
 
-carry_ram : (laws : KnownLaws) (at : Form) (fact : Option CarryFact) (s : ChipState) (address x : ℕ) → Has 256 at address → HoldsOfCarry fact s
+carry_ram : (laws : KnownLaws) (at : Form) (fact : Option CarryFact) (s : ChipState) (address x : ℕ)
+    → Has 256 at address → HoldsOfCarry fact s
     → HoldsOfCarry (carry_unless (is_compared_in at) fact) (record s { ram = set s.ram address x })
 carry_ram laws at None s address x there holds = tt
 carry_ram laws at (Some fact) s address x there holds =
     cond_both (is_compared_in at fact.compared) None (Some fact) (λ left. HoldsOfCarry left (record s { ram = set s.ram address x }))
     (λ e. tt) (λ e. holds ∙ ap (λ v. bit_of (nat_lt v fact.bound)) (compared_beside laws at fact.compared s address x there e))
 
-compared_kept : (compared : Compared) (s : ChipState) (x : ℕ) → is_accumulator compared ≡ false → compared_in compared s ≡ compared_in compared (record s { a = x })
+compared_kept : (compared : Compared) (s : ChipState) (x : ℕ) → is_accumulator compared ≡ false
+    → compared_in compared s ≡ compared_in compared (record s { a = x })
 compared_kept Accumulator s x e = absurd (cc)
 compared_kept (Ram place) s x e = refl
 
-carry_accumulator : (fact : Option CarryFact) (s : ChipState) (x : ℕ) → HoldsOfCarry fact s → HoldsOfCarry (carry_unless is_accumulator fact) (record s { a = x })
+carry_accumulator : (fact : Option CarryFact) (s : ChipState) (x : ℕ) → HoldsOfCarry fact s
+    → HoldsOfCarry (carry_unless is_accumulator fact) (record s { a = x })
 carry_accumulator None s x holds = tt
 carry_accumulator (Some fact) s x holds =
     cond_both (is_accumulator fact.compared) None (Some fact) (λ left. HoldsOfCarry left (record s { a = x }))
@@ -90,7 +95,8 @@ carry_accumulator (Some fact) s x holds =
 
 -- RAM
 
-ram_follows : (laws : KnownLaws) (framed : Bool) (first : Option ChipState) (at : Form) (address x : ℕ) (byte : Byte) → IsNormal 256 at → Has 256 at address
+ram_follows : (laws : KnownLaws) (framed : Bool) (first : Option ChipState) (at : Form) (address x : ℕ) (byte : Byte)
+    → IsNormal 256 at → Has 256 at address
     → IsValue framed first byte x → Follows framed first (ram_written framed at byte) (λ s. record s { ram = set s.ram address x })
 unfolding ram_written
 ram_follows laws framed first at address x byte normal there is known s under =
@@ -113,7 +119,8 @@ ram_follows laws framed first at address x byte normal there is known s under =
 -- REGISTERS
 
 -- a relation of a register to itself
-own_holds : (first : Option ChipState) (place unheld r x : ℕ) (entry : Option Entry) → unheld < 256 → held_by (sfr_of place) ≡ 65535 - unheld
+own_holds : (first : Option ChipState) (place unheld r x : ℕ) (entry : Option Entry) → unheld < 256
+    → held_by (sfr_of place) ≡ 65535 - unheld
     → r < 256 → AgreesBeside unheld r x → IsFromEntry (option_map suspended_of first) entry x
     → IsFromEntry (option_map suspended_of first) (own_entry place unheld entry) r
 own_holds first place unheld r x None below at small same from = tt
@@ -127,7 +134,8 @@ own_holds (Some f) place unheld r x (Some entry) below at small same from =
 -- each number that the register may be read as
 own_reads : (laws : KnownLaws) (framed : Bool) (first : Option ChipState) (place unheld : ℕ) (others : List ℕ) (byte : Byte) (x r : ℕ)
     → unheld < 256 → held_by (sfr_of place) ≡ 65535 - unheld → 1 ≤ length others → ((v : ℕ) → Contains others v → v < 256)
-    → IsValue framed first byte x → IsRead unheld others x r → HoldsOfByte (option_map suspended_of first) (own_byte place unheld others byte) r
+    → IsValue framed first byte x → IsRead unheld others x r
+    → HoldsOfByte (option_map suspended_of first) (own_byte place unheld others byte) r
 own_reads laws framed first place unheld others byte x r below at some low is read =
     let mask = laws.sets.single 256 (255 - unheld) (omega arith) in
     let masked = logic_set 8 And byte.set (single (255 - unheld)) in
@@ -156,7 +164,8 @@ status_holds laws framed first byte x is =
       entry = own_holds first psw_place 3 (x / 4 * 4) x byte.entry (omega arith) refl (omega (arith, small)) (psw_beside x small) is.holds.1;
     }
 
-psw_follows : (framed : Bool) (first : Option ChipState) (status : Status) (psw : ℕ) (known : Known) (s : ChipState) → psw < 256 → psw % 4 ≡ 0
+psw_follows : (framed : Bool) (first : Option ChipState) (status : Status) (psw : ℕ) (known : Known) (s : ChipState)
+    → psw < 256 → psw % 4 ≡ 0
     → length status.bits ≡ 6 → IsOwnRelation framed psw_place 3 status.entry → HoldsOfStatus (option_map suspended_of first) status psw
     → IsUnder framed known s first → IsUnder framed (status_written status known) (record s { psw = psw }) first
 psw_follows framed first status psw known s small held count own holds under =
@@ -199,7 +208,8 @@ is_written laws framed first byte x known s after psw a ram is under = record {
   from = is.holds.1;
 }
 
-register_follows : (laws : KnownLaws) (framed : Bool) (first : Option ChipState) (register : Sfr) (byte : Byte) (x : ℕ) → IsValue framed first byte x
+register_follows : (laws : KnownLaws) (framed : Bool) (first : Option ChipState) (register : Sfr) (byte : Byte) (x : ℕ)
+    → IsValue framed first byte x
     → Follows framed first (register_written register byte) (write_sfr register x)
 unfolding register_written
 register_follows laws framed first Sp byte x is known s under =
@@ -254,13 +264,15 @@ byte_follows laws framed first (InRam at) (AtSfr address) byte x is are stands k
 byte_follows laws framed first (InSfr register) (AtRam address) byte x is are stands known s under = absurd stands
 
 pub pointer_follows : (laws : KnownLaws) (framed : Bool) (first : Option ChipState) (low high : Byte) (x : ℕ)
-    → IsValue framed first low (x % 256) → IsValue framed first high (x / 256) → Follows framed first (data_pointer_written low high) (with_data_pointer x)
+    → IsValue framed first low (x % 256) → IsValue framed first high (x / 256)
+    → Follows framed first (data_pointer_written low high) (with_data_pointer x)
 pointer_follows laws framed first low high x is also known s under =
     let written = is_written laws framed first low (x % 256) known s (with_data_pointer x s) refl refl refl is under in
     let too = is_written laws framed first high (x / 256) known s (with_data_pointer x s) refl refl refl also under in
     assumption (under, written, too)
 
-pub counter_follows : (framed : Bool) (first : Option ChipState) (pc : ℕ) → pc < 65536 → Follows framed first (λ known. known) (λ s. record s { pc = pc })
+pub counter_follows : (framed : Bool) (first : Option ChipState) (pc : ℕ) → pc < 65536
+    → Follows framed first (λ known. known) (λ s. record s { pc = pc })
 counter_follows framed first pc small known s under =
     let facts = facts_stay known s (record s { pc = pc }) first refl refl refl under.holds.parts in
     assumption (under, small, facts)
@@ -312,7 +324,8 @@ flags_agree bits psw c h o carry half overflow six small low also third is_c is_
     (subst (IsBit overflow) e0 is_o, (subst (IsBit b1) e1 h1, (subst (IsBit b2) e2 h2, (subst (IsBit b3) e3 h3, (subst (IsBit half) e4 is_h, (subst (IsBit carry) e5 is_c, none)))))))
     bits six
 
-pub carry_follows : (framed : Bool) (first : Option ChipState) (carry : Tri) (c : ℕ) → IsBit carry c → Follows framed first (carry_set carry) (with_carry c)
+pub carry_follows : (framed : Bool) (first : Option ChipState) (carry : Tri) (c : ℕ) → IsBit carry c
+    → Follows framed first (carry_set carry) (with_carry c)
 carry_follows framed first carry c is known s under =
     let low = bit_below carry c is in
     let state = under.holds.state in
@@ -321,7 +334,8 @@ carry_follows framed first carry c is known s under =
     (omega (arith, low)) (omega (arith, state.psw_held)) (length-set known.psw.bits 5 carry ∙ under.form.bits) (no_own_relation framed psw_place 3)
     (record { bits = bits; entry = tt }) under
 
-pub flags_follow : (framed : Bool) (first : Option ChipState) (carry half overflow : Tri) (c h o : ℕ) → IsBit carry c → IsBit half h → IsBit overflow o
+pub flags_follow : (framed : Bool) (first : Option ChipState) (carry half overflow : Tri) (c h o : ℕ) → IsBit carry c
+    → IsBit half h → IsBit overflow o
     → Follows framed first (flags_set carry half overflow) (with_flags c h o)
 flags_follow framed first carry half overflow c h o is_c is_h is_o known s under =
     let low = bit_below carry c is_c in
@@ -335,7 +349,8 @@ flags_follow framed first carry half overflow c h o is_c is_h is_o known s under
 
 -- THE STACK FOLLOWS
 
-sp_follows : (framed : Bool) (first : Option ChipState) (set_so : Form) (x : ℕ) (known : Known) (s : ChipState) → IsNormal 256 set_so → Has 256 set_so x
+sp_follows : (framed : Bool) (first : Option ChipState) (set_so : Form) (x : ℕ) (known : Known) (s : ChipState)
+    → IsNormal 256 set_so → Has 256 set_so x
     → x < 256 → IsUnder framed known s first → IsUnder framed (record known { sp = set_so }) (record s { sp = x }) first
 sp_follows framed first set_so x known s normal has small under =
     let facts = facts_stay known s (record s { sp = x }) first refl refl refl under.holds.parts in
@@ -351,7 +366,8 @@ push_follows laws framed first byte x is known s under =
     ram_follows laws framed first (raised known.sp) top x byte normal has is (record known { sp = raised known.sp }) (record s { sp = top })
     (sp_follows framed first (raised known.sp) top known s normal has (omega arith) under)
 
-pub pair_follows : (laws : KnownLaws) (framed : Bool) (first : Option ChipState) (low high : Byte) (address : ℕ) → IsValue framed first low (address % 256)
+pub pair_follows : (laws : KnownLaws) (framed : Bool) (first : Option ChipState) (low high : Byte) (address : ℕ)
+    → IsValue framed first low (address % 256)
     → IsValue framed first high (address / 256)
     → Follows framed first (pair_pushed framed low high) (with_pushed_address address)
 pair_follows laws framed first low high address is also known s under =

@@ -19,7 +19,8 @@ compared_stays : (compared : Compared) (s t : ChipState) → s.a ≡ t.a → s.r
 compared_stays Accumulator s t a ram = a
 compared_stays (Ram place) s t a ram = ap (λ list. slice_index list place) ram
 
-pub carry_stays : (fact : Option CarryFact) (s t : ChipState) → s.psw ≡ t.psw → s.a ≡ t.a → s.ram ≡ t.ram → HoldsOfCarry fact s → HoldsOfCarry fact t
+pub carry_stays : (fact : Option CarryFact) (s t : ChipState) → s.psw ≡ t.psw → s.a ≡ t.a → s.ram ≡ t.ram
+    → HoldsOfCarry fact s → HoldsOfCarry fact t
 carry_stays None s t psw a ram holds = tt
 carry_stays (Some fact) s t psw a ram holds =
     ap (λ n. bit_at n 7) (sym psw) ∙ holds ∙ ap (λ v. bit_of (nat_lt v fact.bound)) (compared_stays fact.compared s t a ram)

@@ -14,7 +14,8 @@ KeepsForm framed change = (known : Known) → IsKnown framed known → IsKnown f
 
 -- where a state stands under what is known, it does so behind both changes
 abbrev pub Follows : (framed : Bool) → (first : Option ChipState) → (change : Known → Known) → (step : ChipState → ChipState) → Type 0
-Follows framed first change step = (known : Known) (s : ChipState) → IsUnder framed known s first → IsUnder framed (change known) (step s) first
+Follows framed first change step =
+    (known : Known) (s : ChipState) → IsUnder framed known s first → IsUnder framed (change known) (step s) first
 
 -- a byte in form that holds of a number, over the state that an interrupt suspended first
 pub record IsValue (framed : Bool) (first : Option ChipState) (byte : Byte) (x : ℕ) : Type 0 where

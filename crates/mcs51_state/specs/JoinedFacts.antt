@@ -60,7 +60,8 @@ joined_has laws read each set (one ∷ rest) at v normal there has =
       | inr later ↦ joined_has laws read each (join 256 set (read one)) rest at v both later has
     ]
 
-pub any_normal : (laws : KnownLaws) (read : ℕ → Form) → ((at : ℕ) → IsNormal 256 (read at)) → (list : List ℕ) → IsNormal 256 (any_of read list)
+pub any_normal : (laws : KnownLaws) (read : ℕ → Form) → ((at : ℕ) → IsNormal 256 (read at)) → (list : List ℕ)
+    → IsNormal 256 (any_of read list)
 any_normal laws read each [] = laws.sets.whole_normal 256 (omega arith)
 any_normal laws read each (at ∷ rest) = joined_normal laws read each (read at) rest (each at)
 

@@ -84,7 +84,8 @@ all_touched framed = ranges.all_touched framed 0 255
 
 -- nothing is known; in an interrupt's frame all RAM may be touched
 abbrev pub top_known : (framed : Bool) → Known
-top_known framed = known_by any_byte (byte_of any_byte) (byte_of any_byte) (byte_of any_byte) (status_of Either) all_levels (all_touched framed)
+top_known framed =
+    known_by any_byte (byte_of any_byte) (byte_of any_byte) (byte_of any_byte) (status_of Either) all_levels (all_touched framed)
 
 -- JOINING AND WIDENING
 

@@ -10,7 +10,8 @@ use Rattle.mcs51_state.specs.Known.{byte_of}
 use Rattle.mcs51_state.specs.Following.{IsValue}
 use Rattle.mcs51_state.specs.Stack.{lowered, raised}
 
-pub plain_value : (framed : Bool) (first : Option ChipState) (set : Form) (x : ℕ) → IsNormal 256 set → Has 256 set x → IsValue framed first (byte_of set) x
+pub plain_value : (framed : Bool) (first : Option ChipState) (set : Form) (x : ℕ) → IsNormal 256 set → Has 256 set x
+    → IsValue framed first (byte_of set) x
 plain_value framed first set x normal has = record { form = byte_form framed set normal; holds = (has, tt) }
 
 pub raised_normal : (laws : KnownLaws) (sp : Form) → IsNormal 256 sp → IsNormal 256 (raised sp)

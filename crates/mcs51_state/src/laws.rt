@@ -21,13 +21,16 @@ use irq_frames::known_laws;
 pub fn states_are_ordered()
     ensures itself { (framed : Bool) (known : Known) → IsKnown framed known → known_within known known ≡ true }
     ensures along { (a b c : Known) → known_within a b ≡ true → known_within b c ≡ true → known_within a c ≡ true }
-    ensures join_held { (framed : Bool) (held new : Known) → IsKnown framed held → IsKnown framed new → known_within held (known_joined held new) ≡ true }
-    ensures join_new { (framed : Bool) (held new : Known) → IsKnown framed held → IsKnown framed new → known_within new (known_joined held new) ≡ true }
+    ensures join_held { (framed : Bool) (held new : Known) → IsKnown framed held → IsKnown framed new
+        → known_within held (known_joined held new) ≡ true }
+    ensures join_new { (framed : Bool) (held new : Known) → IsKnown framed held → IsKnown framed new
+        → known_within new (known_joined held new) ≡ true }
     ensures widen_held { (framed : Bool) (marks : List ℕ) → AreMarks 256 marks → (held new : Known) → IsKnown framed held → IsKnown framed new
         → known_within held (known_widened marks held new) ≡ true }
     ensures widen_new { (framed : Bool) (marks : List ℕ) → AreMarks 256 marks → (held new : Known) → IsKnown framed held → IsKnown framed new
         → known_within new (known_widened marks held new) ≡ true }
-    ensures greatest { (framed : Bool) (known : Known) → IsKnown framed known → known_within known (top_known framed) ≡ true }
+    ensures greatest { (framed : Bool) (known : Known) → IsKnown framed known
+        → known_within known (top_known framed) ≡ true }
 {
     known_laws();
 }
@@ -36,7 +39,8 @@ pub fn states_are_ordered()
 pub fn states_keep_form()
     ensures first { (framed : Bool) → IsKnown framed first_known }
     ensures greatest { (framed : Bool) → IsKnown framed (top_known framed) }
-    ensures join { (framed : Bool) (held new : Known) → IsKnown framed held → IsKnown framed new → IsKnown framed (known_joined held new) }
+    ensures join { (framed : Bool) (held new : Known) → IsKnown framed held → IsKnown framed new
+        → IsKnown framed (known_joined held new) }
     ensures widen { (framed : Bool) (marks : List ℕ) → AreMarks 256 marks → (held new : Known) → IsKnown framed held → IsKnown framed new
         → IsKnown framed (known_widened marks held new) }
 {
@@ -46,8 +50,10 @@ pub fn states_keep_form()
 /// What stands under a state stands under all that this is within, each state of the chip behind a reset under the first
 /// one, and each state of the chip under the greatest, in an interrupt's frame over any state that was suspended first.
 pub fn states_cover()
-    ensures parts { (new held : Known) (s : AState) (first : Option AState) → known_within new held ≡ true → HoldsOfParts new s first → HoldsOfParts held s first }
-    ensures more { (node : ANode) (new held : Known) (s : AState) (first : Option AState) → known_within new held ≡ true → Covers node new s first → Covers node held s first }
+    ensures parts { (new held : Known) (s : AState) (first : Option AState) → known_within new held ≡ true
+        → HoldsOfParts new s first → HoldsOfParts held s first }
+    ensures more { (node : ANode) (new held : Known) (s : AState) (first : Option AState)
+        → known_within new held ≡ true → Covers node new s first → Covers node held s first }
     ensures reset { (s : AState) → IsReset s → Covers (At 0 [] Base) first_known s None }
     ensures greatest { (framed : Bool) (s : AState) (first : Option AState) → IsChipState s → IsSuspendedState first → (framed ≡ false → first ≡ None)
         → HoldsOf (top_known framed) s first }

@@ -63,7 +63,8 @@ carry_bit {a} {s} under =
 
 -- THE DESTINATION
 
-no_status : (pc len : ℕ) (registers : List ℕ) (target : Destination) → LeavesStatus target → is_status (destination_place pc len registers target) ≡ false
+no_status : (pc len : ℕ) (registers : List ℕ) (target : Destination) → LeavesStatus target
+    → is_status (destination_place pc len registers target) ≡ false
 no_status pc len registers (destination.Register Sr) leaves = absurd leaves
 no_status pc len registers other leaves = refl
 
@@ -71,7 +72,8 @@ no_free : (width : Width) (stands : Place) (bits y : ℕ) → is_status stands �
 no_free Words stands bits y none = cond-false (is_status stands) (y + 512 * bits) y none
 no_free Byte stands bits y none = refl
 
-zero_operand : (laws : Premises) (first : Option Suspended) (width : Width) → IsOperand first width (record { set = single 0; entry = None }) 0
+zero_operand : (laws : Premises) (first : Option Suspended) (width : Width)
+    → IsOperand first width (record { set = single 0; entry = None }) 0
 zero_operand laws first Words = let is = single_is laws.known 65536 0 (omega arith) in record { values = is; holds = λ e. (is.has, tt) }
 zero_operand laws first Byte =
     let is = single_is laws.known 65536 0 (omega arith) in
@@ -79,7 +81,8 @@ zero_operand laws first Byte =
 
 target_held : (laws : Premises) {device : Device} {framed : Bool} {a : Known} {counted : Form} {first : Option ChipState} {registers ram : List ℕ}
     → IsOnTheWay device framed a counted first registers ram
-    → IsDevice device → (reads : Bool) (width : Width) (reach : Reach) (stands : Place) (y bits : ℕ) → IsReached reach stands → is_status stands ≡ false
+    → IsDevice device → (reads : Bool) (width : Width) (reach : Reach) (stands : Place) (y bits : ℕ)
+    → IsReached reach stands → is_status stands ≡ false
     → MayStandIf reads device ram registers width stands y → bits < 128
     → IsOperand (option_map suspended_of first) width (if reads then operand_word device a counted width reach else record { set = single 0; entry = None })
     (with_free_bits width stands bits y)
@@ -147,7 +150,8 @@ result_related laws {first} {device} {ram} {registers} {pc} {len} {done} Words {
 -- the flags behind a write
 pub flags_put : {device : Device} {framed : Bool} {a : Known} {first : Option ChipState} {next : Form} {left : Left} {made_set : MadeSet} {made_so : Made} {width : Width}
     → IsKnown device.ram.lo device.ram.hi framed a
-    → HoldsOfMade width made_set made_so → IsPut device a first next left → IsLeft device (with_flag_bits a made_set.1) first next (with_status made_so.1 left)
+    → HoldsOfMade width made_set made_so → IsPut device a first next left
+    → IsLeft device (with_flag_bits a made_set.1) first next (with_status made_so.1 left)
 flags_put {next} {left} {made_set} {made_so} form made_is put = record {
   next_is = subst (IsResult 65536 next) (sym (get_or-set_other left.registers 2 0 (with_made_flags (get_or left.registers 2 0) made_so.1) 0 (λ e. omega (arith, e)))) put.next_is;
   parts = flags_written made_set.1 made_so.1 put.are.count form.bits form.fact made_is.flags put.parts;
@@ -155,7 +159,8 @@ flags_put {next} {left} {made_set} {made_so} form made_is put = record {
 
 pub double_law : (laws : Premises) (device : Device) (framed : Bool) (a : Known) (s : ChipState) (first : Option ChipState) (len : ℕ) (done : Operation) (width : Width)
     (origin : Source) (target : Destination) (outcome : Outcome ChipState)
-    → IsUnder device framed a s first → IsSource origin → IsDestination target → LeavesStatus target → (may : MayDouble device s len done width origin target outcome)
+    → IsUnder device framed a s first → IsSource origin → IsDestination target → LeavesStatus target
+    → (may : MayDouble device s len done width origin target outcome)
     → let worked = double_worked device framed a (register_of s 0) len done width origin target in IsLeft device worked.after first worked.next may.left
 unfolding double_worked
 double_law laws device framed a s first len done width origin target outcome under from_so to_so leaves may =

@@ -46,7 +46,8 @@ two_options zero h = inl refl
 two_options (suc zero) h = inr refl
 two_options (suc (suc n)) h = absurd (omega arith)
 
-pub counter_is : (laws : Premises) (s : ChipState) (len : ℕ) (origin : Source) (target : Destination) (counted : ℕ) → MayCount s len origin target counted
+pub counter_is : (laws : Premises) (s : ChipState) (len : ℕ) (origin : Source) (target : Destination) (counted : ℕ)
+    → MayCount s len origin target counted
     → IsResult 65536 (counter_set (register_of s 0) len origin target) counted
 counter_is laws s len origin target counted (Behind other e) =
     let pc = register_of s 0 in
@@ -69,21 +70,24 @@ counter_is laws s len origin target counted (Within reads option few e) =
 
 -- RELATIONS OF RESULTS
 
-and_related : (laws : Premises) (first : Option Suspended) (constant : Option ℕ) (entry : Option Entry) (s d : ℕ) → ((m : ℕ) → constant ≡ Some m → s ≡ m)
+and_related : (laws : Premises) (first : Option Suspended) (constant : Option ℕ) (entry : Option Entry) (s d : ℕ)
+    → ((m : ℕ) → constant ≡ Some m → s ≡ m)
     → IsFromEntry first entry d
     → IsFromEntry first (masked_and constant entry) (bit_and d s)
 and_related laws first None entry s d is holds = tt
 and_related laws first (Some m) entry s d is holds =
     subst (λ n. IsFromEntry first (masked_and (Some m) entry) (bit_and d n)) (sym (is m refl)) (laws.known.values.entries.and first entry d m holds)
 
-clear_related : (laws : Premises) (first : Option Suspended) (constant : Option ℕ) (entry : Option Entry) (s d : ℕ) → ((m : ℕ) → constant ≡ Some m → s ≡ m)
+clear_related : (laws : Premises) (first : Option Suspended) (constant : Option ℕ) (entry : Option Entry) (s d : ℕ)
+    → ((m : ℕ) → constant ≡ Some m → s ≡ m)
     → IsFromEntry first entry d
     → IsFromEntry first (masked_clear constant entry) (bit_and d (65535 - s))
 clear_related laws first None entry s d is holds = tt
 clear_related laws first (Some m) entry s d is holds =
     subst (λ n. IsFromEntry first (masked_clear (Some m) entry) (bit_and d (65535 - n))) (sym (is m refl)) (laws.known.values.entries.and first entry d (65535 - m) holds)
 
-or_related : (laws : Premises) (first : Option Suspended) (constant : Option ℕ) (entry : Option Entry) (s d : ℕ) → ((m : ℕ) → constant ≡ Some m → s ≡ m)
+or_related : (laws : Premises) (first : Option Suspended) (constant : Option ℕ) (entry : Option Entry) (s d : ℕ)
+    → ((m : ℕ) → constant ≡ Some m → s ≡ m)
     → IsFromEntry first entry d
     → IsFromEntry first (masked_or constant entry) (bit_or d s)
 or_related laws first None entry s d is holds = tt
@@ -95,7 +99,8 @@ result_of_made one other e = ap (λ (made_so : Made). made_so.0) e
 
 pub related : (laws : Premises) (first : Option Suspended) (done : Operation) (constant : Option ℕ) (one other : Option Entry) (s d carry : ℕ) (made_so : Made)
     → MayMake done Words s d carry made_so
-    → ((m : ℕ) → constant ≡ Some m → s ≡ m) → IsFromEntry first one s → IsFromEntry first other d → IsFromEntry first (relation_of done constant one other) made_so.0
+    → ((m : ℕ) → constant ≡ Some m → s ≡ m) → IsFromEntry first one s → IsFromEntry first other d
+    → IsFromEntry first (relation_of done constant one other) made_so.0
 related laws first operation.Mov constant one other s d carry made_so may is h k =
     subst (IsFromEntry first one) (result_of_made (s, None) made_so (same_Some (s, None) made_so may)) h
 related laws first operation.And constant one other s d carry made_so may is h k =
@@ -115,8 +120,10 @@ constant_plain Zero = refl
 constant_plain other = refl
 
 -- a source that is a constant has its value
-pub constant_value_is : (device : Device) (ram registers : List ℕ) (pc : ℕ) (origin : Source) (x bits m : ℕ) → IsSource origin → constant_of origin ≡ Some m
-    → MayStandAt device ram registers Words (source_place pc registers origin) x → with_free_bits Words (source_place pc registers origin) bits x ≡ m
+pub constant_value_is : (device : Device) (ram registers : List ℕ) (pc : ℕ) (origin : Source) (x bits m : ℕ)
+    → IsSource origin → constant_of origin ≡ Some m
+    → MayStandAt device ram registers Words (source_place pc registers origin) x
+    → with_free_bits Words (source_place pc registers origin) bits x ≡ m
 constant_value_is device ram registers pc (source.Immediate value) x bits m is e stands =
     stands ∙ mod-eq_of_lt {n = value} {m = 65536} is ∙ same_Some value m e
 constant_value_is device ram registers pc (source.Constant constant) x bits m is e stands =
@@ -138,7 +145,8 @@ byte_word laws first {set_so} {v} is =
       byte = λ e n h. laws.known.bits.pair_byte set_so n is.normal h;
     }
 
-pub written_is : (laws : Premises) (first : Option Suspended) (width : Width) {set_so : Form} (entry : Option Entry) {v : ℕ} → IsResult (modulus width) set_so v
+pub written_is : (laws : Premises) (first : Option Suspended) (width : Width) {set_so : Form} (entry : Option Entry) {v : ℕ}
+    → IsResult (modulus width) set_so v
     → (width ≡ Words → IsFromEntry first entry v)
     → IsWritten first width (written_word width set_so entry) v
 written_is laws first Words entry is from = record { held = record { normal = is.normal; holds = (is.has, from refl) }; byte = λ e. absurd (omega (arith, e)) }

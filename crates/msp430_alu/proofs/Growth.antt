@@ -78,7 +78,8 @@ pointer_pc registers {register} value pointer (General is) =
 -- what is known behind @Rn+
 pub grown_on : (laws : Premises) {device : Device} {framed : Bool} {a : Known} {counted : Form} {first : Option ChipState} {registers ram : List ℕ}
     → IsOnTheWay device framed a counted first registers ram
-    → (width : Width) (origin : Source) → IsSource origin → IsOnTheWay device framed (grown_known a counted width origin) counted first (grown registers width origin) ram
+    → (width : Width) (origin : Source) → IsSource origin
+    → IsOnTheWay device framed (grown_known a counted width origin) counted first (grown registers width origin) ram
 grown_on laws {framed} {a} {counted} {first} {registers} on width (source.IndirectIncrement register) is =
     let kind = laws.kinds register in
     let more = growth width register in
@@ -97,7 +98,8 @@ grown_on laws {framed} {a} {counted} {first} {registers} on width (source.Indire
 grown_on laws on width other is = on
 
 -- and PC stays
-pub grown_pc : (laws : Premises) (registers : List ℕ) (width : Width) (origin : Source) → IsSource origin → get_or (grown registers width origin) 0 0 ≡ get_or registers 0 0
+pub grown_pc : (laws : Premises) (registers : List ℕ) (width : Width) (origin : Source) → IsSource origin
+    → get_or (grown registers width origin) 0 0 ≡ get_or registers 0 0
 grown_pc laws registers width (source.IndirectIncrement register) is =
     pointer_pc registers ((value_in registers register + growth width register) % 65536) is (laws.kinds register)
 grown_pc laws registers width other is = refl

@@ -51,14 +51,16 @@ use Rattle.msp430_alu.proofs.StatusWord.{status_set_is}
 
 -- REGISTERS
 
-pub general_word : (a : Known) (counted : Form) (register : Register) → 3 < number register → register_word a counted register ≡ word_of a (number register)
+pub general_word : (a : Known) (counted : Form) (register : Register) → 3 < number register
+    → register_word a counted register ≡ word_of a (number register)
 general_word a counted Pc low = absurd (omega (arith, low))
 general_word a counted Sp low = absurd (omega (arith, low))
 general_word a counted Sr low = absurd (omega (arith, low))
 general_word a counted R3 low = absurd (omega (arith, low))
 general_word a counted other low = refl
 
-pub word_of_form : (laws : Premises) {lo hi : ℕ} {framed : Bool} {a : Known} → IsKnown lo hi framed a → (register : ℕ) → IsWord framed (word_of a register)
+pub word_of_form : (laws : Premises) {lo hi : ℕ} {framed : Bool} {a : Known} → IsKnown lo hi framed a → (register : ℕ)
+    → IsWord framed (word_of a register)
 word_of_form laws {framed} {a} form register = elim (cases_lt (register - 4) (length a.registers)) [
   | inl inside ↦ All-get_or (IsWord framed) a.registers (register - 4) (unknown 2) inside form.registers
   | inr past ↦ rw (get_or_past a.registers (register - 4) (unknown 2) past) (record { normal = laws.known.sets.whole_normal 65536 (omega arith); entry = no_relation framed })
@@ -141,7 +143,8 @@ source_reached laws on pc (source.Constant constant) is = (refl, constant_small 
 
 pub destination_reached : (laws : Premises) {device : Device} {framed : Bool} {a : Known} {counted : Form} {first : Option ChipState} {registers ram : List ℕ}
     → IsOnTheWay device framed a counted first registers ram
-    → (pc len : ℕ) (target : Destination) → IsDestination target → IsReached (destination_reach pc len a counted target) (destination_place pc len registers target)
+    → (pc len : ℕ) (target : Destination) → IsDestination target
+    → IsReached (destination_reach pc len a counted target) (destination_place pc len registers target)
 destination_reached laws on pc len (destination.Register register) is = refl
 destination_reached laws on pc len (destination.Indexed register offset) is =
     beside_held laws on register offset is.0 is.1
@@ -158,7 +161,8 @@ pub record IsOperand (first : Option Suspended) (width : Width) (word : Word) (v
 of_word : {first : Option Suspended} {word : Word} {v : ℕ} → IsHeld first word v → IsOperand first Words word v
 of_word held = record { values = record { normal = held.normal; has = held.holds.0 }; holds = λ e. held.holds }
 
-of_byte : (laws : Premises) {first : Option Suspended} {word : Word} {v : ℕ} (x : ℕ) → IsHeld first word v → x ≡ v % 256 → IsOperand first Byte word x
+of_byte : (laws : Premises) {first : Option Suspended} {word : Word} {v : ℕ} (x : ℕ) → IsHeld first word v → x ≡ v % 256
+    → IsOperand first Byte word x
 of_byte laws {word} {v} x held is = record {
   values = record { normal = laws.known.bits.low_normal word.set held.normal; has = subst (Has 256 (low_set word.set)) (sym is) (laws.known.bits.low v word.set held.normal held.holds.0) };
   holds = λ e. absurd (cc);
@@ -171,13 +175,15 @@ number_small : (register : Register) → number register < 16
 number_small Pc = omega arith
 number_small other = omega arith
 
-register_small : {registers : List ℕ} (register : Register) → AreRegisters registers → value_in registers register % 65536 ≡ value_in registers register
+register_small : {registers : List ℕ} (register : Register) → AreRegisters registers
+    → value_in registers register % 65536 ≡ value_in registers register
 register_small {registers} register are =
     mod-eq_of_lt {n = value_in registers register} {m = 65536} (value_small are (number register) (number_small register))
 
 pub operand_held : (laws : Premises) {device : Device} {framed : Bool} {a : Known} {counted : Form} {first : Option ChipState} {registers ram : List ℕ}
     → IsOnTheWay device framed a counted first registers ram
-    → IsDevice device → (width : Width) (reach : Reach) (stands : Place) (x bits : ℕ) → IsReached reach stands → MayStandAt device ram registers width stands x → bits < 128
+    → IsDevice device → (width : Width) (reach : Reach) (stands : Place) (x bits : ℕ) → IsReached reach stands
+    → MayStandAt device ram registers width stands x → bits < 128
     → IsOperand (option_map suspended_of first) width (operand_word device a counted width reach) (with_free_bits width stands bits x)
 operand_held laws {a} {counted} {first} {registers} on is Words (InRegister register) (place.InRegister other) x bits reached stands few =
     let under = option_map suspended_of first in

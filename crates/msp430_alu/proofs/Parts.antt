@@ -33,7 +33,8 @@ abbrev SaysOf : FlagFact → (value sr : ℕ) → Type 0
 SaysOf fact value sr = HasFlagsOf fact.width ((value + fact.added) % modulus fact.width) fact.compared sr × (fact.width ≡ Byte → value < 256)
 
 -- a fact speaks of SR and of one of R4 to R15
-fact_alike : (fact : Option FlagFact) (one other : List ℕ) → IsFact fact → ((r : ℕ) → 1 < r → get_or one r 0 ≡ get_or other r 0) → HoldsOfFact fact one → HoldsOfFact fact other
+fact_alike : (fact : Option FlagFact) (one other : List ℕ) → IsFact fact
+    → ((r : ℕ) → 1 < r → get_or one r 0 ≡ get_or other r 0) → HoldsOfFact fact one → HoldsOfFact fact other
 fact_alike None one other form same holds = tt
 fact_alike (Some fact) one other form same holds =
     let value = same fact.register (omega (arith, form.0)) in
@@ -41,7 +42,8 @@ fact_alike (Some fact) one other form same holds =
     subst (SaysOf fact (get_or other fact.register 0)) status (subst (λ v. SaysOf fact v (get_or one 2 0)) value holds)
 
 -- what is known of registers holds of others that are alike, but for PC, and for SP which is known apart
-parts_alike : {device : Device} {a : Known} {first : Option ChipState} {one : List ℕ} (other : List ℕ) {ram : List ℕ} (sp : Form) → IsFact a.fact
+parts_alike : {device : Device} {a : Known} {first : Option ChipState} {one : List ℕ} (other : List ℕ) {ram : List ℕ} (sp : Form)
+    → IsFact a.fact
     → ((r : ℕ) → 1 < r → get_or one r 0 ≡ get_or other r 0)
     → Has 65536 sp (get_or other 1 0) → HoldsOfParts device a first one ram → HoldsOfParts device (record a { sp = sp }) first other ram
 parts_alike {a} {first} {one} other sp form same has holds = record {
@@ -71,7 +73,8 @@ fact_kept register value (Some fact) registers low holds =
     let status : get_or registers 2 0 ≡ get_or (set registers register value) 2 0 = sym (get_or-set_other registers register 2 value 0 (λ same. omega (arith, same, low))) in
     subst (SaysOf fact (get_or (set registers register value) fact.register 0)) status (subst (λ v. SaysOf fact v (get_or registers 2 0)) kept holds))
 
-pub word_written : {device : Device} {a : Known} {first : Option ChipState} {registers ram : List ℕ} (register value : ℕ) (word : Word) → length registers ≡ 16
+pub word_written : {device : Device} {a : Known} {first : Option ChipState} {registers ram : List ℕ} (register value : ℕ) (word : Word)
+    → length registers ≡ 16
     → length a.registers ≡ 12
     → 3 < register → register < 16 → HoldsOfWord (option_map suspended_of first) word value
     → HoldsOfParts device a first registers ram → HoldsOfParts device (with_word a register word) first (set registers register value) ram
@@ -99,7 +102,8 @@ word_written {a} {first} {registers} register value word long as_long low high i
 
 -- SP
 
-pub sp_written : {device : Device} {a : Known} {first : Option ChipState} {registers ram : List ℕ} (value : ℕ) (set_so : Form) → length registers ≡ 16 → IsFact a.fact
+pub sp_written : {device : Device} {a : Known} {first : Option ChipState} {registers ram : List ℕ} (value : ℕ) (set_so : Form)
+    → length registers ≡ 16 → IsFact a.fact
     → Has 65536 (even_parts set_so) (even value)
     → HoldsOfParts device a first registers ram → HoldsOfParts device (with_sp a set_so) first (set registers 1 (even value)) ram
 sp_written {registers} value set_so long form has holds =
@@ -170,7 +174,8 @@ put_agrees bits flags_so sr flags long are agrees =
     subst (Agrees (put_flags bits flags_so)) end a4
 
 -- SR behind a result
-pub flags_written : {device : Device} {a : Known} {first : Option ChipState} {registers ram : List ℕ} (flags_so : Option FlagBits) (flags : Option Flags) → length registers ≡ 16
+pub flags_written : {device : Device} {a : Known} {first : Option ChipState} {registers ram : List ℕ} (flags_so : Option FlagBits) (flags : Option Flags)
+    → length registers ≡ 16
     → length a.status.bits ≡ 9 → IsFact a.fact
     → HoldsOfFlags flags_so flags → HoldsOfParts device a first registers ram
     → HoldsOfParts device (with_flag_bits a flags_so) first (set registers 2 (with_made_flags (get_or registers 2 0) flags)) ram

@@ -58,7 +58,8 @@ sp_seen laws {registers} {set_so} on is =
 -- another SP
 sp_set : (laws : Premises) {device : Device} {framed : Bool} {a : Known} {counted : Form} {first : Option ChipState} {registers ram : List ℕ} {set_so : Form} {value : ℕ}
     → IsOnTheWay device framed a counted first registers ram
-    → IsResult 65536 set_so value → even value ≡ value → IsOnTheWay device framed (with_sp a set_so) counted first (set registers 1 value) ram
+    → IsResult 65536 set_so value → even value ≡ value
+    → IsOnTheWay device framed (with_sp a set_so) counted first (set registers 1 value) ram
 sp_set laws {device} {a} {counted} {first} {registers} {ram} {set_so} {value} on is same =
     let small = laws.known.sets.below 65536 value set_so is.normal is.has in
     record {
@@ -86,7 +87,8 @@ lowered_on laws on =
     sp_set laws on (lowered_is laws on) (lowered_even on.are)
 
 -- the operand is formed before or after SP is lowered
-both_seen : (laws : Premises) {device : Device} {framed : Bool} {a : Known} {counted : Form} {first : Option ChipState} {registers ram : List ℕ} (option : ℕ) → option < 2
+both_seen : (laws : Premises) {device : Device} {framed : Bool} {a : Known} {counted : Form} {first : Option ChipState} {registers ram : List ℕ} (option : ℕ)
+    → option < 2
     → IsOnTheWay device framed a counted first registers ram
     → IsOnTheWay device framed (with_sp a (join 65536 a.sp (add 65536 a.sp (single 65534)))) counted first (with_lowered option registers) ram
 both_seen laws {device} {framed} {a} {counted} {first} {registers} {ram} option few on =
@@ -102,7 +104,8 @@ both_seen laws {device} {framed} {a} {counted} {first} {registers} {ram} option 
 
 pub forming_on : (laws : Premises) {device : Device} {framed : Bool} {a : Known} {counted : Form} {first : Option ChipState} {registers ram : List ℕ} (operand : Source)
     (option : ℕ) → IsOption (is_formed_by_stack operand) 2 option
-    → IsOnTheWay device framed a counted first registers ram → IsOnTheWay device framed (forming_known operand a) counted first (with_lowered option registers) ram
+    → IsOnTheWay device framed a counted first registers ram
+    → IsOnTheWay device framed (forming_known operand a) counted first (with_lowered option registers) ram
 forming_on laws {device} {framed} {a} {counted} {first} {registers} {ram} operand option formed on =
     cond_both (is_formed_by_stack operand) (with_sp a (join 65536 a.sp (add 65536 a.sp (single 65534)))) a
     (λ b. IsOnTheWay device framed b counted first (with_lowered option registers) ram)
@@ -111,7 +114,8 @@ forming_on laws {device} {framed} {a} {counted} {first} {registers} {ram} operan
 
 -- THE PUSHED WORD
 
-byte_pushed : (laws : Premises) {first : Option Suspended} {x : Word} {v : ℕ} (word : ℕ) → IsOperand first Byte x v → MayPushWord Byte v word
+byte_pushed : (laws : Premises) {first : Option Suspended} {x : Word} {v : ℕ} (word : ℕ) → IsOperand first Byte x v
+    → MayPushWord Byte v word
     → IsWritten first Words (record { set = pair_set (values_of Byte x) (make 256 0 1 256); entry = None }) word
 byte_pushed laws {x} {v} word held (high, few, is) =
     let above = make 256 0 1 256 in
@@ -129,18 +133,21 @@ byte_pushed laws {x} {v} word held (high, few, is) =
 word_pushed : {first : Option Suspended} {x : Word} {v : ℕ} → IsOperand first Words x v → IsWritten first Words x v
 word_pushed held = record { held = record { normal = held.values.normal; holds = held.holds refl }; byte = λ e. absurd (omega (arith, e)) }
 
-value_pushed : (laws : Premises) {first : Option Suspended} (width : Width) {x : Word} {v : ℕ} (word : ℕ) → IsOperand first width x v → MayPushWord width v word
+value_pushed : (laws : Premises) {first : Option Suspended} (width : Width) {x : Word} {v : ℕ} (word : ℕ)
+    → IsOperand first width x v → MayPushWord width v word
     → IsWritten first Words (pushed_known Push width x word) word
 value_pushed laws {first} Words {x} word held is = subst (IsWritten first Words x) (sym is) (word_pushed held)
 value_pushed laws Byte word held is = byte_pushed laws word held is
 
 -- all but CALL push alike
-alike : (done : SingleOperation) (width : Width) (x : Word) (one other : ℕ) → (done ≡ Call → ⊥) → pushed_known Push width x one ≡ pushed_known done width x other
+alike : (done : SingleOperation) (width : Width) (x : Word) (one other : ℕ) → (done ≡ Call → ⊥)
+    → pushed_known Push width x one ≡ pushed_known done width x other
 alike Call width x one other differs = absurd (differs refl)
 alike done Words x one other differs = refl
 alike done Byte x one other differs = refl
 
-call_pushed : (laws : Premises) (first : Option Suspended) (width : Width) (x : Word) (after : ℕ) → after < 65536 → IsWritten first Words (pushed_known Call width x after) after
+call_pushed : (laws : Premises) (first : Option Suspended) (width : Width) (x : Word) (after : ℕ) → after < 65536
+    → IsWritten first Words (pushed_known Call width x after) after
 call_pushed laws first width x after small =
     let is = single_is laws.known 65536 after small in record { held = record { normal = is.normal; holds = (is.has, tt) }; byte = λ e. absurd (omega (arith, e)) }
 
@@ -161,7 +168,8 @@ pushed_behind device framed b word = put_known device framed (lowered_known b) W
 -- behind the operand PC has its value, and the word goes below SP
 pushed_left : (laws : Premises) {device : Device} {framed : Bool} {b : Known} {first : Option ChipState} {registers ram : List ℕ} {pc word : ℕ} {pushed_so : Word}
     → IsReady device framed b first registers ram pc
-    → IsWritten (option_map suspended_of first) Words pushed_so word → IsPut device (pushed_behind device framed b pushed_so) first (single pc) (pushed device registers ram word)
+    → IsWritten (option_map suspended_of first) Words pushed_so word
+    → IsPut device (pushed_behind device framed b pushed_so) first (single pc) (pushed device registers ram word)
 pushed_left laws {device} {framed} {b} {first} {registers} {ram} {pc} ready written =
     let sp = lowered (get_or registers 1 0) in
     let on : IsOnTheWay device framed b (single pc) first registers ram = record {
@@ -175,13 +183,15 @@ pushed_left laws {device} {framed} {b} {first} {registers} {ram} {pc} ready writ
     let below : IsReady device framed (lowered_known b) first (set registers 1 sp) ram pc = assumption (lower, at, ready) in
     put_is laws below (InMemory (lowered_known b).sp) (place.InMemory sp) (slot_reached laws on) refl written
 
-plain_next : (done : SingleOperation) (width : Width) (x : Word) (after : ℕ) → (done ≡ Call → ⊥) → called_next done width x after ≡ single after
+plain_next : (done : SingleOperation) (width : Width) (x : Word) (after : ℕ) → (done ≡ Call → ⊥)
+    → called_next done width x after ≡ single after
 plain_next Call width x after differs = absurd (differs refl)
 plain_next other width x after differs = refl
 
 plain_left : (laws : Premises) {device : Device} {framed : Bool} {b : Known} {first : Option ChipState} {registers ram : List ℕ} {after : ℕ}
     → IsReady device framed b first registers ram after
-    → (done : SingleOperation) {width : Width} {x : Word} {v : ℕ} (left : Left) → IsOperand (option_map suspended_of first) width x v → (done ≡ Call → ⊥)
+    → (done : SingleOperation) {width : Width} {x : Word} {v : ℕ} (left : Left)
+    → IsOperand (option_map suspended_of first) width x v → (done ≡ Call → ⊥)
     → (word : ℕ) × MayPushWord width v word × (left ≡ pushed device registers ram word)
     → IsLeft device (pushed_behind device framed b (pushed_known done width x after)) first (called_next done width x after) left
 plain_left laws {device} {framed} {b} {first} {registers} {ram} {after} ready done {width} {x} left held differs (word, may, left_is) =
@@ -192,7 +202,8 @@ plain_left laws {device} {framed} {b} {first} {registers} {ram} {after} ready do
 
 call_left : (laws : Premises) {device : Device} {framed : Bool} {b : Known} {first : Option ChipState} {registers ram : List ℕ} {after : ℕ}
     → IsReady device framed b first registers ram after
-    → {width : Width} {x : Word} {v : ℕ} (left : Left) → IsOperand (option_map suspended_of first) width x v → left ≡ pushed device (set registers 0 (even v)) ram after
+    → {width : Width} {x : Word} {v : ℕ} (left : Left) → IsOperand (option_map suspended_of first) width x v
+    → left ≡ pushed device (set registers 0 (even v)) ram after
     → IsLeft device (pushed_behind device framed b (pushed_known Call width x after)) first (called_next Call width x after) left
 call_left laws {device} {framed} {b} {first} {registers} {ram} {after} ready {width} {x} {v} left held left_is =
     let suspended = option_map suspended_of first in
@@ -232,7 +243,8 @@ push_forming laws {s = s} {len = len} {operand = operand} under may =
 
 pub push_law : (laws : Premises) (device : Device) (framed : Bool) (a : Known) (s : ChipState) (first : Option ChipState) (len : ℕ) (done : SingleOperation) (width : Width)
     (operand : Source)
-    (outcome : Outcome ChipState) → IsUnder device framed a s first → IsSource operand → (may : MayPush device s len done width operand outcome)
+    (outcome : Outcome ChipState) → IsUnder device framed a s first → IsSource operand
+    → (may : MayPush device s len done width operand outcome)
     → let worked = push_worked device framed a (register_of s 0) len done width operand in IsLeft device worked.after first worked.next may.left
 unfolding push_worked
 push_law laws device framed a s first len done width operand outcome under from_so may =

@@ -44,7 +44,8 @@ use Rattle.msp430_alu.proofs.Storing.{IsStorable, store_holds}
 
 -- THE REGISTERS BEHIND A WRITE
 
-pub general_put : (a : Known) (register : Register) (word : Word) → 3 < number register → put_register a register word ≡ with_word a (number register) word
+pub general_put : (a : Known) (register : Register) (word : Word) → 3 < number register
+    → put_register a register word ≡ with_word a (number register) word
 general_put a Pc word low = absurd (omega (arith, low))
 general_put a Sp word low = absurd (omega (arith, low))
 general_put a Sr word low = absurd (omega (arith, low))
@@ -55,7 +56,8 @@ even_small : (v : ℕ) → v < 65536 → even v < 65536
 even_small v small = omega (arith, small)
 
 -- the registers behind a write, by what stands in SP, SR and R3
-set_are : {registers : List ℕ} (i value : ℕ) → value < 65536 → (i ≡ 1 → value % 2 ≡ 0) → (i ≡ 2 → value < 512) → (i ≡ 3 → value ≡ 0) → AreRegisters registers
+set_are : {registers : List ℕ} (i value : ℕ) → value < 65536 → (i ≡ 1 → value % 2 ≡ 0) → (i ≡ 2 → value < 512)
+    → (i ≡ 3 → value ≡ 0) → AreRegisters registers
     → AreRegisters (set registers i value)
 set_are {registers} i value small even_so status nothing are = record {
   count = length-set registers i value ∙ are.count;
@@ -68,7 +70,8 @@ set_are {registers} i value small even_so status nothing are = record {
 pub counted_are : {registers : List ℕ} (pc : ℕ) → pc < 65536 → AreRegisters registers → AreRegisters (set registers 0 pc)
 counted_are pc small = set_are 0 pc small (λ e. omega (arith, e)) (λ e. omega (arith, e)) (λ e. omega (arith, e))
 
-general_are : {registers : List ℕ} (register value : ℕ) → 3 < register → value < 65536 → AreRegisters registers → AreRegisters (set registers register value)
+general_are : {registers : List ℕ} (register value : ℕ) → 3 < register → value < 65536 → AreRegisters registers
+    → AreRegisters (set registers register value)
 general_are register value low small = set_are register value small (λ e. omega (arith, e, low)) (λ e. omega (arith, e, low)) (λ e. omega (arith, e, low))
 
 pub sp_are : {registers : List ℕ} (value : ℕ) → value < 65536 → AreRegisters registers → AreRegisters (set registers 1 (even value))
@@ -94,8 +97,10 @@ pub record IsWritten (first : Option Suspended) (width : Width) (word : Word) (v
 
 pub register_put : (laws : Premises) {device : Device} {framed : Bool} {a : Known} {first : Option ChipState} {registers ram : List ℕ} {register : Register} {word : Word}
     {value : ℕ} → IsKnown device.ram.lo device.ram.hi framed a
-    → AreRegisters registers → is_status (place.InRegister register) ≡ false → Kind register → IsHeld (option_map suspended_of first) word value
-    → HoldsOfParts device a first registers ram → HoldsOfParts device (put_register a register word) first (with_register registers register value) ram
+    → AreRegisters registers → is_status (place.InRegister register) ≡ false → Kind register
+    → IsHeld (option_map suspended_of first) word value
+    → HoldsOfParts device a first registers ram
+    → HoldsOfParts device (put_register a register word) first (with_register registers register value) ram
 register_put laws {value} form are no_status (Counter e) held holds = rw e (parts_counted (even value) form.fact holds)
 register_put laws {word} {value} form are no_status (Stack e) held holds =
     let parts = even_parts_is laws.known word.set value (record { normal = held.normal; has = held.holds.0 }) in
@@ -107,11 +112,13 @@ register_put laws {a} {registers} {register} {word} {value} form are no_status (
     rw (general_put a register word is.above, is.set registers value)
     (word_written (number register) value word are.count form.count is.above is.below held.holds holds)
 
-value_below : (laws : Premises) {first : Option Suspended} (width : Width) {word : Word} {value : ℕ} → IsWritten first width word value → value < modulus width
+value_below : (laws : Premises) {first : Option Suspended} (width : Width) {word : Word} {value : ℕ}
+    → IsWritten first width word value → value < modulus width
 value_below laws Words {word} {value} is = laws.known.sets.below 65536 value word.set is.held.normal is.held.holds.0
 value_below laws Byte {value} is = is.byte refl value is.held.holds.0
 
-storable_is : {first : Option Suspended} {width : Width} {word : Word} {value : ℕ} → IsWritten first width word value → IsStorable width word
+storable_is : {first : Option Suspended} {width : Width} {word : Word} {value : ℕ} → IsWritten first width word value
+    → IsStorable width word
 storable_is is = record { normal = is.held.normal; byte = is.byte }
 
 -- what a write leaves
@@ -120,16 +127,19 @@ pub record IsPut (device : Device) (after : Known) (first : Option ChipState) (n
   pub next_is : IsResult 65536 next (get_or left.registers 0 0)
   pub parts : HoldsOfParts device after first left.registers left.ram
 
-general_next : (register : Register) (word : Word) (behind_so : ℕ) → 3 < number register → next_by (InRegister register) word behind_so ≡ single behind_so
+general_next : (register : Register) (word : Word) (behind_so : ℕ) → 3 < number register
+    → next_by (InRegister register) word behind_so ≡ single behind_so
 general_next Pc word behind_so low = absurd (omega (arith, low))
 general_next Sp word behind_so low = refl
 general_next Sr word behind_so low = refl
 general_next R3 word behind_so low = refl
 general_next other word behind_so low = refl
 
-register_next : (laws : Premises) {first : Option Suspended} {registers : List ℕ} {register : Register} {word : Word} {value : ℕ} (behind_so : ℕ) → AreRegisters registers
+register_next : (laws : Premises) {first : Option Suspended} {registers : List ℕ} {register : Register} {word : Word} {value : ℕ} (behind_so : ℕ)
+    → AreRegisters registers
     → get_or registers 0 0 ≡ behind_so → behind_so < 65536
-    → Kind register → IsHeld first word value → IsResult 65536 (next_by (InRegister register) word behind_so) (get_or (with_register registers register value) 0 0)
+    → Kind register → IsHeld first word value
+    → IsResult 65536 (next_by (InRegister register) word behind_so) (get_or (with_register registers register value) 0 0)
 register_next laws {registers} {word} {value} behind_so are pc small (Counter e) held =
     let parts = even_parts_is laws.known word.set value (record { normal = held.normal; has = held.holds.0 }) in
     rw (e, get_or-set_same registers 0 (even value) 0 (omega (arith, are.count))) parts
@@ -183,7 +193,8 @@ put_is laws ready reach stands reached no_status is = absurd reached
 -- the same, where the result is written
 pub put_if_is : (laws : Premises) {device : Device} {framed : Bool} {a : Known} {first : Option ChipState} {registers ram : List ℕ} {behind_so : ℕ}
     → IsReady device framed a first registers ram behind_so
-    → (writes : Bool) {width : Width} (reach : Reach) (stands : Place) {word : Word} {value : ℕ} → IsReached reach stands → is_status stands ≡ false
+    → (writes : Bool) {width : Width} (reach : Reach) (stands : Place) {word : Word} {value : ℕ}
+    → IsReached reach stands → is_status stands ≡ false
     → IsWritten (option_map suspended_of first) width word value
     → IsPut device (put_known_if writes device framed a width reach word) first (next_if writes reach word behind_so) (put_if writes device registers ram width stands value)
 put_if_is laws ready true reach stands reached no_status is =

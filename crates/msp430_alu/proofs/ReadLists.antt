@@ -29,13 +29,15 @@ each_more device a width set ms place d inside =
     (each_suc device a width set ms place d inside)
 
 -- none behind the last
-pub each_end : (device : Device) (a : Known) (width : Width) (set : Form) (ms : List ℕ) (place : ℕ) → length ms ≤ place → read_each device a width set (drop place ms) ≡ set
+pub each_end : (device : Device) (a : Known) (width : Width) (set : Form) (ms : List ℕ) (place : ℕ) → length ms ≤ place
+    → read_each device a width set (drop place ms) ≡ set
 each_end device a width set [] zero past = refl
 each_end device a width set [] (suc place) past = refl
 each_end device a width set (m ∷ ms) zero past = absurd (omega (arith, past))
 each_end device a width set (m ∷ ms) (suc place) past = each_end device a width set ms place (omega (arith, past))
 
-pub list_many : (device : Device) (a : Known) (width : Width) (ms : List ℕ) → 256 < length ms → read_list device a width ms ≡ unknown (size_of width)
+pub list_many : (device : Device) (a : Known) (width : Width) (ms : List ℕ) → 256 < length ms
+    → read_list device a width ms ≡ unknown (size_of width)
 list_many device a width [] many = refl
 list_many device a width (m ∷ []) many = absurd (omega (arith, many))
 list_many device a width (m ∷ next ∷ rest) many =
@@ -43,7 +45,8 @@ list_many device a width (m ∷ next ∷ rest) many =
     (λ (word : Word). word ≡ unknown (size_of width))
     (λ e. let fits = leb-true (length rest) 254 e in absurd (omega (arith, many, fits))) (λ e. refl)
 
-pub list_one : (device : Device) (a : Known) (width : Width) (ms : List ℕ) (d : ℕ) → length ms ≡ 1 → read_list device a width ms ≡ read_one device a width (get_or ms 0 d)
+pub list_one : (device : Device) (a : Known) (width : Width) (ms : List ℕ) (d : ℕ) → length ms ≡ 1
+    → read_list device a width ms ≡ read_one device a width (get_or ms 0 d)
 list_one device a width [] d one = absurd (omega arith)
 list_one device a width (m ∷ []) d one = refl
 list_one device a width (m ∷ next ∷ rest) d one = absurd (omega (arith, one))
@@ -58,7 +61,8 @@ list_few device a width (m ∷ next ∷ rest) d some few =
     (λ e. let fits : length rest ≤ 254 = omega (arith, few) in absurd (false≢true (sym e ∙ le-leb (length rest) 254 fits)))
 
 -- the number at a place is a member
-pub member_fits : (set : Form) (place size n : ℕ) → place < length (members 65536 set) → n ≡ get_or (members 65536 set) place 0 → ((v : ℕ) → Has 65536 set v → v + size ≤ 65536)
+pub member_fits : (set : Form) (place size n : ℕ) → place < length (members 65536 set)
+    → n ≡ get_or (members 65536 set) place 0 → ((v : ℕ) → Has 65536 set v → v + size ≤ 65536)
     → n + size ≤ 65536
 member_fits set place size n inside is fits =
     subst (λ m. m + size ≤ 65536) (sym is) (fits (get_or (members 65536 set) place 0) (Contains-get_or (members 65536 set) place 0 inside))

@@ -74,7 +74,8 @@ both_in_ram {device} is at no_bit = elim (cases_Bool (is_ram device at)) [
 ]
 
 -- a byte that is read: of RAM, or of no RAM by what the program has
-byte_of_ram : (device : Device) (ram : List ℕ) (at byte : ℕ) → is_ram device at ≡ true → MayReadByte device ram at byte → byte ≡ ram_byte device ram at
+byte_of_ram : (device : Device) (ram : List ℕ) (at byte : ℕ) → is_ram device at ≡ true → MayReadByte device ram at byte
+    → byte ≡ ram_byte device ram at
 byte_of_ram device ram at byte inside (OfRam there is) = is ∙ sym (cond-true (is_ram device at) (get_or ram (at - device.ram.lo) 0) 0 inside)
 byte_of_ram device ram at byte inside (OfProgram outside is) = absurd (cc)
 byte_of_ram device ram at byte inside (OfNeither outside is small) = absurd (cc)
@@ -83,7 +84,8 @@ data OfImage (device : Device) (at byte : ℕ) : Type 0 where
   Program : byte_at device.image at ≡ Some byte → OfImage device at byte
   Any : byte_at device.image at ≡ None → OfImage device at byte
 
-byte_of_image : (device : Device) (ram : List ℕ) (at byte : ℕ) → is_ram device at ≡ false → MayReadByte device ram at byte → OfImage device at byte
+byte_of_image : (device : Device) (ram : List ℕ) (at byte : ℕ) → is_ram device at ≡ false
+    → MayReadByte device ram at byte → OfImage device at byte
 byte_of_image device ram at byte outside (OfRam there is) = absurd (cc)
 byte_of_image device ram at byte outside (OfProgram there is) = Program is
 byte_of_image device ram at byte outside (OfNeither there is small) = Any is
@@ -98,18 +100,21 @@ pub record IsMemory (device : Device) (a : Known) (first : Option Suspended) (ra
   pub cells : AreCells device.ram.lo device.ram.hi device.ram.lo a.cells.cells
   pub stands : StandsUnder first a.cells.cells (ram_byte device ram)
 
-byte_image_held : (laws : Premises) (first : Option Suspended) (byte : ℕ) (found : Option ℕ) → byte < 256 → (found ≡ Some byte) ⊎ (found ≡ None)
+byte_image_held : (laws : Premises) (first : Option Suspended) (byte : ℕ) (found : Option ℕ) → byte < 256
+    → (found ≡ Some byte) ⊎ (found ≡ None)
     → IsHeld first (byte_by found) byte
 byte_image_held laws first byte found small (inl e) =
     let is = single_is laws.known 65536 byte (omega arith) in
     subst (λ f. IsHeld first (byte_by f) byte) (sym e) (record { normal = is.normal; holds = (is.has, tt) })
 byte_image_held laws first byte found small (inr e) = subst (λ f. IsHeld first (byte_by f) byte) (sym e) (unknown_byte laws first byte small)
 
-either_image : (device : Device) (at byte : ℕ) → OfImage device at byte → (byte_at device.image at ≡ Some byte) ⊎ (byte_at device.image at ≡ None)
+either_image : (device : Device) (at byte : ℕ) → OfImage device at byte
+    → (byte_at device.image at ≡ Some byte) ⊎ (byte_at device.image at ≡ None)
 either_image device at byte (Program e) = inl e
 either_image device at byte (Any e) = inr e
 
-word_image_held : (laws : Premises) (first : Option Suspended) (low high : ℕ) (one other : Option ℕ) → low < 256 → high < 256 → (one ≡ Some low) ⊎ (one ≡ None)
+word_image_held : (laws : Premises) (first : Option Suspended) (low high : ℕ) (one other : Option ℕ) → low < 256
+    → high < 256 → (one ≡ Some low) ⊎ (one ≡ None)
     → (other ≡ Some high) ⊎ (other ≡ None)
     → IsHeld first (word_by one other) (low + 256 * high)
 word_image_held laws first low high None other small few h k = unknown_word laws first (low + 256 * high) (omega arith)
@@ -121,7 +126,8 @@ word_image_held laws first low high (Some b) (Some c) small few (inl e) (inl g) 
 word_image_held laws first low high (Some b) (Some c) small few (inr e) k = absurd (cc)
 word_image_held laws first low high (Some b) (Some c) small few (inl e) (inr g) = absurd (cc)
 
-pub one_held : (laws : Premises) {device : Device} {a : Known} {first : Option Suspended} {ram : List ℕ} → IsMemory device a first ram → (width : Width) (address x : ℕ)
+pub one_held : (laws : Premises) {device : Device} {a : Known} {first : Option Suspended} {ram : List ℕ}
+    → IsMemory device a first ram → (width : Width) (address x : ℕ)
     → address < 65536
     → MayRead device ram width address x → IsHeld first (read_one device a width (aligned device width address)) x
 one_held laws {device} {a} {first} {ram} memory Byte address x below reads =
@@ -175,7 +181,8 @@ one_held laws {device} {a} {first} {ram} memory Words address x below reads =
 
 -- SEVERAL ADDRESSES
 
-word_normal : (laws : Premises) (one other : Option ℕ) → ((b : ℕ) → one ≡ Some b → b < 256) → ((b : ℕ) → other ≡ Some b → b < 256) → IsNormal 65536 (word_by one other).set
+word_normal : (laws : Premises) (one other : Option ℕ) → ((b : ℕ) → one ≡ Some b → b < 256)
+    → ((b : ℕ) → other ≡ Some b → b < 256) → IsNormal 65536 (word_by one other).set
 word_normal laws None other small few = laws.known.sets.whole_normal 65536 (omega arith)
 word_normal laws (Some b) None small few = laws.known.sets.whole_normal 65536 (omega arith)
 word_normal laws (Some b) (Some c) small few = let low = small b refl in let high = few c refl in (laws.known.sets.single 65536 (b + 256 * c) (omega (arith, low, high))).0
@@ -184,19 +191,22 @@ byte_normal : (laws : Premises) (found : Option ℕ) → ((b : ℕ) → found �
 byte_normal laws None small = (unknown_byte laws None 0 (omega arith)).normal
 byte_normal laws (Some b) small = let low = small b refl in (laws.known.sets.single 65536 b (omega (arith, low))).0
 
-image_normal : (laws : Premises) {device : Device} → IsDevice device → (width : Width) (at : ℕ) → IsNormal 65536 (program_word device width at).set
+image_normal : (laws : Premises) {device : Device} → IsDevice device → (width : Width) (at : ℕ)
+    → IsNormal 65536 (program_word device width at).set
 image_normal laws {device} is Words at =
     word_normal laws (byte_at device.image at) (byte_at device.image (at + 1)) (λ b. image_below device.image at b is.bytes) (λ b. image_below device.image (at + 1) b is.bytes)
 image_normal laws {device} is Byte at = byte_normal laws (byte_at device.image at) (λ b. image_below device.image at b is.bytes)
 
-one_normal : (laws : Premises) {device : Device} (a : Known) → IsDevice device → AreCells device.ram.lo device.ram.hi device.ram.lo a.cells.cells → (width : Width) (at : ℕ)
+one_normal : (laws : Premises) {device : Device} (a : Known) → IsDevice device
+    → AreCells device.ram.lo device.ram.hi device.ram.lo a.cells.cells → (width : Width) (at : ℕ)
     → IsNormal 65536 (read_one device a width at).set
 one_normal laws {device} a is cells width at =
     cond_both (is_ram device at) (read a.cells.cells at (size_of width)) (program_word device width at) (λ word. IsNormal 65536 word.set)
     (λ e. laws.known.cells.read_normal device.ram.lo device.ram.hi device.ram.lo at (size_of width) a.cells.cells cells)
     (λ e. image_normal laws is width at)
 
-each_normal : (laws : Premises) {device : Device} (a : Known) → IsDevice device → AreCells device.ram.lo device.ram.hi device.ram.lo a.cells.cells
+each_normal : (laws : Premises) {device : Device} (a : Known) → IsDevice device
+    → AreCells device.ram.lo device.ram.hi device.ram.lo a.cells.cells
     → (width : Width) (set : Form) (list : List ℕ) → IsNormal 65536 set
     → IsNormal 65536 (read_each device a width set list)
 each_normal laws a is cells width set [] normal = normal
@@ -204,7 +214,8 @@ each_normal laws {device} a is cells width set (at ∷ rest) normal =
     each_normal laws a is cells width (join 65536 set (read_one device a width at).set) rest
     (laws.known.sets.join_normal 65536 set (read_one device a width at).set normal (one_normal laws a is cells width at))
 
-each_keeps : (laws : Premises) {device : Device} (a : Known) → IsDevice device → AreCells device.ram.lo device.ram.hi device.ram.lo a.cells.cells
+each_keeps : (laws : Premises) {device : Device} (a : Known) → IsDevice device
+    → AreCells device.ram.lo device.ram.hi device.ram.lo a.cells.cells
     → (width : Width) (set : Form) (list : List ℕ) (v : ℕ) → IsNormal 65536 set
     → Has 65536 set v → Has 65536 (read_each device a width set list) v
 each_keeps laws a is cells width set [] v normal has = has
@@ -214,7 +225,8 @@ each_keeps laws {device} a is cells width set (at ∷ rest) v normal has =
     each_keeps laws a is cells width (join 65536 set next) rest v (laws.known.sets.join_normal 65536 set next normal next_normal)
     (laws.known.sets.join_first 65536 set next normal next_normal v has)
 
-each_has : (laws : Premises) {device : Device} (a : Known) → IsDevice device → AreCells device.ram.lo device.ram.hi device.ram.lo a.cells.cells
+each_has : (laws : Premises) {device : Device} (a : Known) → IsDevice device
+    → AreCells device.ram.lo device.ram.hi device.ram.lo a.cells.cells
     → (width : Width) (set : Form) (list : List ℕ) (at v : ℕ) → IsNormal 65536 set
     → Contains list at → Has 65536 (read_one device a width at).set v → Has 65536 (read_each device a width set list) v
 each_has laws a is cells width set [] at v normal there has = absurd (in_none at there)
@@ -228,11 +240,13 @@ each_has laws {device} a is cells width set (first ∷ rest) at v normal there h
       | inr later ↦ each_has laws a is cells width (join 65536 set next) rest at v joined later has
     ]
 
-unknown_held : (laws : Premises) (first : Option Suspended) (width : Width) (v : ℕ) → v < modulus width → IsHeld first (unknown (size_of width)) v
+unknown_held : (laws : Premises) (first : Option Suspended) (width : Width) (v : ℕ) → v < modulus width
+    → IsHeld first (unknown (size_of width)) v
 unknown_held laws first Words v small = unknown_word laws first v small
 unknown_held laws first Byte v small = unknown_byte laws first v small
 
-pub list_held : (laws : Premises) {device : Device} (a : Known) {first : Option Suspended} → IsDevice device → AreCells device.ram.lo device.ram.hi device.ram.lo a.cells.cells
+pub list_held : (laws : Premises) {device : Device} (a : Known) {first : Option Suspended} → IsDevice device
+    → AreCells device.ram.lo device.ram.hi device.ram.lo a.cells.cells
     → (width : Width) (list : List ℕ) (at : ℕ) {v : ℕ}
     → v < modulus width → Contains list at → IsHeld first (read_one device a width at) v → IsHeld first (read_list device a width list) v
 list_held laws a is cells width [] at small there held = absurd (in_none at there)
@@ -256,7 +270,8 @@ list_held laws {device} a {first} is cells width (one ∷ next ∷ rest) at {v} 
     })
     (λ many. unknown_held laws first width v small)
 
-list_normal : (laws : Premises) {device : Device} (a : Known) → IsDevice device → AreCells device.ram.lo device.ram.hi device.ram.lo a.cells.cells
+list_normal : (laws : Premises) {device : Device} (a : Known) → IsDevice device
+    → AreCells device.ram.lo device.ram.hi device.ram.lo a.cells.cells
     → (width : Width) (list : List ℕ) → IsNormal 65536 (read_list device a width list).set
 list_normal laws a is cells width [] = unknown_normal laws width
 list_normal laws a is cells width (only ∷ []) = one_normal laws a is cells width only
@@ -265,11 +280,13 @@ list_normal laws {device} a is cells width (one ∷ next ∷ rest) =
     (λ word. IsNormal 65536 word.set)
     (λ few. each_normal laws a is cells width (read_one device a width one).set (next ∷ rest) (one_normal laws a is cells width one)) (λ many. unknown_normal laws width)
 
-pub read_known_normal : (laws : Premises) {device : Device} (a : Known) → IsDevice device → AreCells device.ram.lo device.ram.hi device.ram.lo a.cells.cells
+pub read_known_normal : (laws : Premises) {device : Device} (a : Known) → IsDevice device
+    → AreCells device.ram.lo device.ram.hi device.ram.lo a.cells.cells
     → (width : Width) (set : Form) → IsNormal 65536 (read_known device a width set).set
 read_known_normal laws a is cells width set = list_normal laws a is cells width (members 65536 set)
 
-pub memory_below : {device : Device} → IsDevice device → (ram : List ℕ) → ((at : ℕ) → ram_byte device ram at < 256) → (width : Width) (address x : ℕ)
+pub memory_below : {device : Device} → IsDevice device → (ram : List ℕ) → ((at : ℕ) → ram_byte device ram at < 256)
+    → (width : Width) (address x : ℕ)
     → MayRead device ram width address x → x < modulus width
 memory_below {device} is ram small = read_below device ram is.bytes (ram_bytes device ram small)
 

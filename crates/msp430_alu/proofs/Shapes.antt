@@ -51,10 +51,12 @@ word_form {framed} {a} register {word} is form =
     let fact = fact_without_form register a.fact form.fact in
     assumption (count, registers, fact, form)
 
-pub sp_form : (laws : Premises) {lo hi : ℕ} {framed : Bool} {a : Known} (set_so : Form) → IsNormal 65536 set_so → IsKnown lo hi framed a → IsKnown lo hi framed (with_sp a set_so)
+pub sp_form : (laws : Premises) {lo hi : ℕ} {framed : Bool} {a : Known} (set_so : Form) → IsNormal 65536 set_so
+    → IsKnown lo hi framed a → IsKnown lo hi framed (with_sp a set_so)
 sp_form laws set_so normal form = let sp = even_parts_form laws.known set_so normal in assumption (sp, form)
 
-pub register_form : (laws : Premises) {lo hi : ℕ} {framed : Bool} {a : Known} {register : Register} {word : Word} → Kind register → IsWord framed word → IsKnown lo hi framed a
+pub register_form : (laws : Premises) {lo hi : ℕ} {framed : Bool} {a : Known} {register : Register} {word : Word}
+    → Kind register → IsWord framed word → IsKnown lo hi framed a
     → IsKnown lo hi framed (put_register a register word)
 register_form laws (Counter e) is form = rw e form
 register_form laws {word} (Stack e) is form = rw e (sp_form laws word.set is.normal form)
@@ -62,7 +64,8 @@ register_form laws (Status e) is form = rw e form
 register_form laws (Empty e) is form = rw e form
 register_form laws {a} {register} {word} (General general) is form = rw (general_put a register word general.above) (word_form (number register) is form)
 
-pub flags_form : {lo hi : ℕ} {framed : Bool} {a : Known} (flags : Option FlagBits) → IsKnown lo hi framed a → IsKnown lo hi framed (with_flag_bits a flags)
+pub flags_form : {lo hi : ℕ} {framed : Bool} {a : Known} (flags : Option FlagBits) → IsKnown lo hi framed a
+    → IsKnown lo hi framed (with_flag_bits a flags)
 flags_form None form = form
 flags_form {framed} {a} (Some flags) form =
     let carry = set a.status.bits 0 flags.carry in
@@ -73,7 +76,8 @@ flags_form {framed} {a} (Some flags) form =
 
 -- CELLS
 
-filter_form : (framed : Bool) (test : Cell → Bool) (cells : List Cell) → ((c : Cell) → Contains cells c → IsChipCell framed c) → (c : Cell) → Contains (filter test cells) c
+filter_form : (framed : Bool) (test : Cell → Bool) (cells : List Cell)
+    → ((c : Cell) → Contains cells c → IsChipCell framed c) → (c : Cell) → Contains (filter test cells) c
     → IsChipCell framed c
 filter_form framed test [] forms c h = absurd (in_none c h)
 filter_form framed test (cell ∷ cells) forms c h =
@@ -84,7 +88,8 @@ filter_form framed test (cell ∷ cells) forms c h =
       | inr later ↦ rest c later
     ]) (λ e there. rest c there) h
 
-insert_form : {framed : Bool} {cell : Cell} (cells : List Cell) → IsChipCell framed cell → ((c : Cell) → Contains cells c → IsChipCell framed c) → (c : Cell)
+insert_form : {framed : Bool} {cell : Cell} (cells : List Cell) → IsChipCell framed cell
+    → ((c : Cell) → Contains cells c → IsChipCell framed c) → (c : Cell)
     → Contains (insert cell cells) c → IsChipCell framed c
 insert_form {framed} {cell} [] is forms c h = elim (in_cons cell [] c h) [
   | inl same ↦ subst (IsChipCell framed) same is
@@ -112,7 +117,8 @@ one_form {framed} map at size word is forms c h =
     cond_both (nat_lt at map.lo || nat_lt map.hi (at + size - 1) || is_nothing size word) left (insert cell left) (λ list. Contains list c → IsChipCell framed c)
     (λ e there. rest c there) (λ e there. insert_form left is rest c there) h
 
-with_some_from : (made : Option Cell) (cells : List Cell) (c : Cell) → Contains (with_some made cells) c → (P : Type 0) → (made ≡ Some c → P) → (Contains cells c → P) → P
+with_some_from : (made : Option Cell) (cells : List Cell) (c : Cell) → Contains (with_some made cells) c → (P : Type 0)
+    → (made ≡ Some c → P) → (Contains cells c → P) → P
 with_some_from None cells c h P here there = there h
 with_some_from (Some made) cells c h P here there = elim (in_cons made cells c h) [
   | inl same ↦ here (ap Some same)
@@ -124,7 +130,8 @@ telling_form {framed} {made} c is tells =
     cond_both (is_nothing made.size made.word) None (Some made) (λ told. told ≡ Some c → IsChipCell framed c)
     (λ e told. absurd (cc)) (λ e told. subst (IsChipCell framed) (same_Some made c told) is) tells
 
-behind_form : {framed : Bool} (at : Form) (size : ℕ) (word : Word) {cell : Cell} (c : Cell) → IsChipCell framed cell → cell_behind at size word cell ≡ Some c
+behind_form : {framed : Bool} (at : Form) (size : ℕ) (word : Word) {cell : Cell} (c : Cell) → IsChipCell framed cell
+    → cell_behind at size word cell ≡ Some c
     → IsChipCell framed c
 behind_form {framed} at size word {cell} c is made =
     let joined : Cell = record { place = cell.place; size = size; word = word_join cell.word word } in
@@ -143,7 +150,8 @@ behind_form {framed} at size word {cell} c is made =
     } now)
     (λ g now. absurd (cc)) same) told) made
 
-several_form : (framed : Bool) (at : Form) (size : ℕ) (word : Word) (cells : List Cell) → ((c : Cell) → Contains cells c → IsChipCell framed c)
+several_form : (framed : Bool) (at : Form) (size : ℕ) (word : Word) (cells : List Cell)
+    → ((c : Cell) → Contains cells c → IsChipCell framed c)
     → (c : Cell) → Contains (kept (cell_behind at size word) cells) c → IsChipCell framed c
 several_form framed at size word [] forms c h = absurd (in_none c h)
 several_form framed at size word (cell ∷ cells) forms c h =
@@ -157,9 +165,11 @@ pub record IsCellWord (framed : Bool) (width : Width) (word : Word) : Type 0 whe
   pub byte : size_of width ≡ 1 → word.entry ≡ None
   pub entry : IsRelation framed word.entry
 
-any_cell_form : {framed : Bool} (map : CellMap) (at : Form) {width : Width} {word : Word} → 1 ≤ length (members 65536 at) → (size_of width ≡ 2 → HasRemainder 65536 2 0 at)
+any_cell_form : {framed : Bool} (map : CellMap) (at : Form) {width : Width} {word : Word}
+    → 1 ≤ length (members 65536 at) → (size_of width ≡ 2 → HasRemainder 65536 2 0 at)
     → IsCellWord framed width word
-    → ((c : Cell) → Contains map.cells c → IsChipCell framed c) → (c : Cell) → Contains (write_any map at (size_of width) word).cells c → IsChipCell framed c
+    → ((c : Cell) → Contains map.cells c → IsChipCell framed c) → (c : Cell)
+    → Contains (write_any map at (size_of width) word).cells c → IsChipCell framed c
 unfolding write_any write_several
 any_cell_form {framed} map at {width} {word} some even_so is forms c h =
     let size = size_of width in
@@ -170,18 +180,21 @@ any_cell_form {framed} map at {width} {word} some even_so is forms c h =
     (λ e there. one_form map place size word stored forms c there)
     (λ e there. several_form framed at size word map.cells forms c there) h
 
-store_touched : (laws : Premises) (device : Device) (framed : Bool) (width : Width) (at : Form) (touched : List (ℕ × ℕ)) → device.ram.lo ≤ device.ram.hi
+store_touched : (laws : Premises) (device : Device) (framed : Bool) (width : Width) (at : Form) (touched : List (ℕ × ℕ))
+    → device.ram.lo ≤ device.ram.hi
     → AreRanges device.ram.lo device.ram.hi touched
     → AreRanges device.ram.lo device.ram.hi (if framed then touched_behind device.ram.lo device.ram.hi (size_of width) at touched else touched)
 store_touched laws device true width at touched le are = (behind_grows laws device.ram.lo device.ram.hi (size_of width) at touched le (some_size width) are).form
 store_touched laws device false width at touched le are = are
 
-store_none : (device : Device) (framed : Bool) (width : Width) (at : Form) (touched : List (ℕ × ℕ)) → (framed ≡ false → touched ≡ []) → framed ≡ false
+store_none : (device : Device) (framed : Bool) (width : Width) (at : Form) (touched : List (ℕ × ℕ))
+    → (framed ≡ false → touched ≡ []) → framed ≡ false
     → (if framed then touched_behind device.ram.lo device.ram.hi (size_of width) at touched else touched) ≡ []
 store_none device true width at touched none base = absurd (cc)
 store_none device false width at touched none base = none base
 
-pub store_form : (laws : Premises) {device : Device} {framed : Bool} {a : Known} {width : Width} (at : Form) {word : Word} → IsDevice device → 1 ≤ length (members 65536 at)
+pub store_form : (laws : Premises) {device : Device} {framed : Bool} {a : Known} {width : Width} (at : Form) {word : Word}
+    → IsDevice device → 1 ≤ length (members 65536 at)
     → (size_of width ≡ 2 → HasRemainder 65536 2 0 at) → IsCellWord framed width word → IsKnown device.ram.lo device.ram.hi framed a
     → IsKnown device.ram.lo device.ram.hi framed (with_store device framed a width at word)
 store_form laws {device} {framed} {a} {width} at {word} is some even_so cell form =

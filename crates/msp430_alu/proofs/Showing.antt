@@ -48,7 +48,8 @@ use Rattle.msp430_alu.proofs.WhereAccesses.{located_is}
 
 -- LISTS
 
-shown_both : (items others : List Item) (xs ys : List Single) → AreShown items xs → AreShown others ys → AreShown (items ++ others) (xs ++ ys)
+shown_both : (items others : List Item) (xs ys : List Single) → AreShown items xs → AreShown others ys
+    → AreShown (items ++ others) (xs ++ ys)
 shown_both items others xs ys h k x within = elim (Contains-append_cases xs ys x within) [
   | inl a ↦ let (one, in_items, shows) = h x a in (one, Contains-append_left items others one in_items, shows)
   | inr b ↦ let (one, in_others, shows) = k x b in (one, Contains-append_right items others one in_others, shows)
@@ -56,7 +57,8 @@ shown_both items others xs ys h k x within = elim (Contains-append_cases xs ys x
 
 -- ACCESSES
 
-access_shown : (laws : Premises) {device : Device} → HasRam device → (pc : ℕ) (write : Bool) (width : Width) (reach : Reach) (stands : Place) → IsReached reach stands
+access_shown : (laws : Premises) {device : Device} → HasRam device
+    → (pc : ℕ) (write : Bool) (width : Width) (reach : Reach) (stands : Place) → IsReached reach stands
     → AreShown (access_of device pc write width reach) (access_to device pc write width stands)
 access_shown laws {device} is pc write width (InMemory set_so) (place.InMemory address) reached x within = (
   item.Access pc Mem write (size_of width) (W (located device width set_so)),
@@ -67,19 +69,22 @@ access_shown laws {device} is pc write width (InMemory set_so) (place.InMemory a
 access_shown laws is pc write width reach (place.InMemory address) reached x within = absurd reached
 access_shown laws is pc write width reach stands reached x within = absurd (in_none x within)
 
-read_shown : (laws : Premises) {device : Device} → HasRam device → (reads : Bool) (pc : ℕ) (width : Width) (reach : Reach) (stands : Place) → IsReached reach stands
+read_shown : (laws : Premises) {device : Device} → HasRam device
+    → (reads : Bool) (pc : ℕ) (width : Width) (reach : Reach) (stands : Place) → IsReached reach stands
     → AreShown (access_if reads device pc false width reach) (reads_if reads device pc width stands)
 read_shown laws is true pc width reach stands reached x within = access_shown laws is pc false width reach stands reached x within
 read_shown laws is false pc width reach stands reached x within = absurd (in_none x within)
 
-write_shown : (laws : Premises) {device : Device} → HasRam device → (writes : Bool) (pc : ℕ) (width : Width) (reach : Reach) (stands : Place) → IsReached reach stands
+write_shown : (laws : Premises) {device : Device} → HasRam device
+    → (writes : Bool) (pc : ℕ) (width : Width) (reach : Reach) (stands : Place) → IsReached reach stands
     → AreShown (access_if writes device pc true width reach) (writes_if writes device pc width stands)
 write_shown laws is true pc width reach stands reached x within = access_shown laws is pc true width reach stands reached x within
 write_shown laws is false pc width reach stands reached x within = absurd (in_none x within)
 
 -- STORES
 
-put_hit : (laws : Premises) {device : Device} → HasRam device → (registers ram : List ℕ) (width : Width) (reach : Reach) (stands : Place) (value at : ℕ) → IsReached reach stands
+put_hit : (laws : Premises) {device : Device} → HasRam device
+    → (registers ram : List ℕ) (width : Width) (reach : Reach) (stands : Place) (value at : ℕ) → IsReached reach stands
     → (put device registers ram width stands value).hit ≡ Some at
     → IsHit device width (store_of true device width reach) at
 put_hit laws {device} is registers ram width (InMemory set_so) (place.InMemory address) value at reached e =
@@ -87,7 +92,8 @@ put_hit laws {device} is registers ram width (InMemory set_so) (place.InMemory a
 put_hit laws is registers ram width reach (place.InMemory address) value at reached e = absurd reached
 put_hit laws is registers ram width reach stands value at reached e = absurd (cc)
 
-put_if_hit : (laws : Premises) {device : Device} → HasRam device → (registers ram : List ℕ) (writes : Bool) (width : Width) (reach : Reach) (stands : Place) (value at : ℕ)
+put_if_hit : (laws : Premises) {device : Device} → HasRam device
+    → (registers ram : List ℕ) (writes : Bool) (width : Width) (reach : Reach) (stands : Place) (value at : ℕ)
     → IsReached reach stands
     → (put_if writes device registers ram width stands value).hit ≡ Some at → IsHit device width (store_of writes device width reach) at
 put_if_hit laws is registers ram true width reach stands value at reached e = put_hit laws is registers ram width reach stands value at reached e
@@ -97,7 +103,8 @@ put_if_hit laws is registers ram false width reach stands value at reached e = a
 
 pub double_shown : (laws : Premises) (device : Device) (framed : Bool) (a : Known) (s : ChipState) (first : Option ChipState) (len : ℕ) (done : Operation) (width : Width)
     (origin : Source) (target : Destination) (outcome : Outcome ChipState)
-    → IsUnder device framed a s first → IsSource origin → IsDestination target → (may : MayDouble device s len done width origin target outcome)
+    → IsUnder device framed a s first → IsSource origin → IsDestination target
+    → (may : MayDouble device s len done width origin target outcome)
     → AreShown (double_worked device framed a (register_of s 0) len done width origin target).accesses
     (double_accesses device (register_of s 0) done width (origin_of s may.counted origin) (place_of s len may.counted width origin target))
 unfolding double_worked
@@ -119,7 +126,8 @@ double_shown laws device framed a s first len done width origin target outcome u
 
 pub double_hit : (laws : Premises) (device : Device) (framed : Bool) (a : Known) (s : ChipState) (first : Option ChipState) (len : ℕ) (done : Operation) (width : Width)
     (origin : Source) (target : Destination) (outcome : Outcome ChipState) (at : ℕ)
-    → IsUnder device framed a s first → IsSource origin → IsDestination target → (may : MayDouble device s len done width origin target outcome) → may.left.hit ≡ Some at
+    → IsUnder device framed a s first → IsSource origin → IsDestination target
+    → (may : MayDouble device s len done width origin target outcome) → may.left.hit ≡ Some at
     → IsHit device width (double_worked device framed a (register_of s 0) len done width origin target).store at
 unfolding double_worked
 double_hit laws device framed a s first len done width origin target outcome at under from_so to_so may e =
@@ -151,7 +159,8 @@ single_shown laws device framed a s first len done width operand under from_so =
 
 pub single_hit : (laws : Premises) (device : Device) (framed : Bool) (a : Known) (s : ChipState) (first : Option ChipState) (len : ℕ) (done : SingleOperation) (width : Width)
     (operand : Source) (outcome : Outcome ChipState) (at : ℕ)
-    → IsUnder device framed a s first → IsSource operand → (may : MaySingle device s len done width operand outcome) → may.left.hit ≡ Some at
+    → IsUnder device framed a s first → IsSource operand → (may : MaySingle device s len done width operand outcome)
+    → may.left.hit ≡ Some at
     → IsHit device width (single_worked device framed a (register_of s 0) len done width operand).store at
 unfolding single_worked
 single_hit laws device framed a s first len done width operand outcome at under from_so may e =
@@ -183,16 +192,19 @@ push_shown laws device framed a s first len done width operand outcome under fro
     shown_both (access_of device pc false width from) (access_of device pc true Words slot) (access_to device pc false width one) (access_to device pc true Words two)
     (access_shown laws under.device_so.ram pc false width from one source) (access_shown laws under.device_so.ram pc true Words slot two goal)
 
-plain_hit : (laws : Premises) {device : Device} → HasRam device → (registers ram : List ℕ) (width : Width) (x word at : ℕ) (left : Left) {slot : Form}
+plain_hit : (laws : Premises) {device : Device} → HasRam device
+    → (registers ram : List ℕ) (width : Width) (x word at : ℕ) (left : Left) {slot : Form}
     → IsResult 65536 slot (lowered (get_or registers 1 0))
     → left ≡ pushed device registers ram word → left.hit ≡ Some at → IsHit device Words (store_of true device Words (InMemory slot)) at
 plain_hit laws known registers ram width x word at left {slot} goal is e =
     put_hit laws known (set registers 1 (lowered (get_or registers 1 0))) ram Words (InMemory slot) (place.InMemory (lowered (get_or registers 1 0))) word at goal
     (sym (ap (λ (l : Left). l.hit) is) ∙ e)
 
-either_hit : (laws : Premises) {device : Device} → HasRam device → (registers ram : List ℕ) (done : SingleOperation) (width : Width) (x after at : ℕ) (left : Left) {slot : Form}
+either_hit : (laws : Premises) {device : Device} → HasRam device
+    → (registers ram : List ℕ) (done : SingleOperation) (width : Width) (x after at : ℕ) (left : Left) {slot : Form}
     → IsResult 65536 slot (lowered (get_or registers 1 0))
-    → MayLeavePush device ram registers done width x after left → left.hit ≡ Some at → IsHit device Words (store_of true device Words (InMemory slot)) at
+    → MayLeavePush device ram registers done width x after left → left.hit ≡ Some at
+    → IsHit device Words (store_of true device Words (InMemory slot)) at
 either_hit laws known registers ram Call width x after at left {slot} goal is e =
     let kept : lowered (get_or registers 1 0) ≡ lowered (get_or (set registers 0 (x - x % 2)) 1 0) = ap lowered
     (sym (get_or-set_other registers 0 1 (x - x % 2) 0 (λ f. omega (arith, f)))) in

@@ -33,13 +33,15 @@ use Rattle.msp430_alu.proofs.OperandLemmas.{operand_held}
 use Rattle.msp430_alu.proofs.Putting.{IsReady, put_is}
 use Rattle.msp430_alu.proofs.WorkedForms.{single_forms}
 
-no_status : (pc : ℕ) (registers : List ℕ) (operand : Source) → LeavesStatusAlone operand → is_status (source_place pc registers operand) ≡ false
+no_status : (pc : ℕ) (registers : List ℕ) (operand : Source) → LeavesStatusAlone operand
+    → is_status (source_place pc registers operand) ≡ false
 no_status pc registers (source.Register Sr) leaves = absurd leaves
 no_status pc registers other leaves = refl
 
 pub single_law : (laws : Premises) (device : Device) (framed : Bool) (a : Known) (s : ChipState) (first : Option ChipState) (len : ℕ) (done : SingleOperation) (width : Width)
     (operand : Source) (outcome : Outcome ChipState)
-    → IsUnder device framed a s first → IsSource operand → LeavesStatusAlone operand → HasWidth done width → (may : MaySingle device s len done width operand outcome)
+    → IsUnder device framed a s first → IsSource operand → LeavesStatusAlone operand → HasWidth done width
+    → (may : MaySingle device s len done width operand outcome)
     → let worked = single_worked device framed a (register_of s 0) len done width operand in IsLeft device worked.after first worked.next may.left
 unfolding single_worked
 single_law laws device framed a s first len done width operand outcome under from_so leaves fits may =

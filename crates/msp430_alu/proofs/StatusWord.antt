@@ -21,7 +21,8 @@ use Rattle.msp430_alu.specs.Premises.{Premises}
 use Rattle.msp430_alu.specs.Registers.{status_set}
 
 -- the relation of SR with other bits 9 to 15
-relation_wider : (framed : Bool) (f : Suspended) (entry : Option Entry) (sr x : ℕ) → f.held 2 ≡ 511 → IsStatusRelation framed entry → sr < 512 → x < 128
+relation_wider : (framed : Bool) (f : Suspended) (entry : Option Entry) (sr x : ℕ) → f.held 2 ≡ 511
+    → IsStatusRelation framed entry → sr < 512 → x < 128
     → IsFromEntry (Some f) entry sr
     → IsFromEntry (Some f) entry (sr + 512 * x)
 relation_wider framed f None sr x held form small few holds = tt
@@ -49,13 +50,15 @@ relation_wider true f (Some entry) sr x held (place, and_small, high_and, or_sma
     let whole : sr + 512 * x ≡ wide = omega (arith, low, high, small) in
     (wider, (omega (arith, few), same_reads ∙ reads), whole)
 
-relation_under : (framed : Bool) (first : Option ChipState) (entry : Option Entry) (sr x : ℕ) → IsStatusRelation framed entry → sr < 512 → x < 128
+relation_under : (framed : Bool) (first : Option ChipState) (entry : Option Entry) (sr x : ℕ)
+    → IsStatusRelation framed entry → sr < 512 → x < 128
     → IsFromEntry (option_map suspended_of first) entry sr → IsFromEntry (option_map suspended_of first) entry (sr + 512 * x)
 relation_under framed (Some f) entry sr x form small few holds = relation_wider framed (suspended_of f) entry sr x refl form small few holds
 relation_under framed None None sr x form small few holds = tt
 relation_under framed None (Some entry) sr x form small few holds = absurd holds
 
-pub status_set_is : (laws : Premises) (framed : Bool) (first : Option ChipState) (status : Status) (sr x : ℕ) → length status.bits ≡ 9 → IsStatusRelation framed status.entry
+pub status_set_is : (laws : Premises) (framed : Bool) (first : Option ChipState) (status : Status) (sr x : ℕ)
+    → length status.bits ≡ 9 → IsStatusRelation framed status.entry
     → sr < 512 → x < 128
     → HoldsOfStatus (option_map suspended_of first) status sr
     → IsNormal 65536 (status_set status) × HoldsOfWord (option_map suspended_of first) (record { set = status_set status; entry = status.entry }) (sr + 512 * x)

@@ -41,7 +41,8 @@ ram_high device at inside = leb-true at device.ram.hi (and_parts (nat_le device.
 in_ram : (device : Device) (at : ℕ) → device.ram.lo ≤ at → at ≤ device.ram.hi → is_ram device at ≡ true
 in_ram device at low high = and_from (nat_le device.ram.lo at) (nat_le at device.ram.hi) (le-leb device.ram.lo at low) (le-leb at device.ram.hi high)
 
-with_byte_unfolded : (device : Device) (ram : List ℕ) (at byte : ℕ) → with_byte device ram at byte ≡ (if is_ram device at then set ram (at - device.ram.lo) byte else ram)
+with_byte_unfolded : (device : Device) (ram : List ℕ) (at byte : ℕ)
+    → with_byte device ram at byte ≡ (if is_ram device at then set ram (at - device.ram.lo) byte else ram)
 unfolding with_byte
 with_byte_unfolded device ram at byte = refl
 
@@ -51,7 +52,8 @@ byte_ram {device} {ram} at byte small is = subst (IsRam device) (sym (with_byte_
     (λ e. record { count = length-set ram (at - device.ram.lo) byte ∙ is.count; bytes = All-set (λ b. b < 256) ram (at - device.ram.lo) byte small is.bytes }) (λ e. is))
 
 -- the written byte, where it lies in RAM
-byte_there : {device : Device} {ram : List ℕ} (at byte : ℕ) → is_ram device at ≡ true → IsRam device ram → ram_byte device (with_byte device ram at byte) at ≡ byte
+byte_there : {device : Device} {ram : List ℕ} (at byte : ℕ) → is_ram device at ≡ true → IsRam device ram
+    → ram_byte device (with_byte device ram at byte) at ≡ byte
 byte_there {device} {ram} at byte inside is =
     let low = ram_low device at inside in
     let high = ram_high device at inside in
@@ -63,7 +65,8 @@ byte_there {device} {ram} at byte inside is =
     ∙ get_or-set_same ram (at - device.ram.lo) byte 0 place
 
 -- each other byte stays
-byte_elsewhere : (device : Device) (ram : List ℕ) (at byte b : ℕ) → (b ≡ at → ⊥) → ram_byte device (with_byte device ram at byte) b ≡ ram_byte device ram b
+byte_elsewhere : (device : Device) (ram : List ℕ) (at byte b : ℕ) → (b ≡ at → ⊥)
+    → ram_byte device (with_byte device ram at byte) b ≡ ram_byte device ram b
 byte_elsewhere device ram at byte b other = elim (cases_Bool (is_ram device at)) [
   | inr outside ↦ ap (λ bytes. ram_byte device bytes b) (with_byte_unfolded device ram at byte ∙ cond-false (is_ram device at) (set ram (at - device.ram.lo) byte) ram outside)
   | inl inside ↦
@@ -99,7 +102,8 @@ stored_ram device ram Words address value small is =
 stored_ram device ram Byte address value small is = byte_ram (aligned device Byte address) value small is
 
 -- a RAM behind a store and behind a write of cells agree
-agrees_there : (laws : Premises) {device : Device} → HasRam device → {ram : List ℕ} (width : Width) (address value : ℕ) → address < 65536 → value < modulus width
+agrees_there : (laws : Premises) {device : Device} → HasRam device → {ram : List ℕ} (width : Width) (address value : ℕ)
+    → address < 65536 → value < modulus width
     → IsRam device ram → (b : ℕ) → device.ram.lo ≤ b → b ≤ device.ram.hi
     → written (ram_byte device ram) (aligned device width address) (size_of width) value b ≡ ram_byte device (with_stored device ram width address value) b
 unfolding written
@@ -173,11 +177,13 @@ cells_stored laws {device} map first {ram} {width} {set_so} address value {word}
 
 -- TOUCHED BYTES
 
-has_more : (from hi b low high : ℕ) (ranges : List (ℕ × ℕ)) → (laws : Premises) → low ≤ high → AreRanges from hi ranges → has_address ranges b ≡ true
+has_more : (from hi b low high : ℕ) (ranges : List (ℕ × ℕ)) → (laws : Premises) → low ≤ high → AreRanges from hi ranges
+    → has_address ranges b ≡ true
     → has_address (with_range low high ranges) b ≡ true
 has_more from hi b low high ranges laws le are has = laws.known.ranges.add from hi b low high ranges le are ∙ or_left (has_address ranges b) (lies_in (b, b) (low, high)) has
 
-has_new : (from hi b low high : ℕ) (ranges : List (ℕ × ℕ)) → (laws : Premises) → AreRanges from hi ranges → low ≤ b → b ≤ high → has_address (with_range low high ranges) b ≡ true
+has_new : (from hi b low high : ℕ) (ranges : List (ℕ × ℕ)) → (laws : Premises) → AreRanges from hi ranges → low ≤ b
+    → b ≤ high → has_address (with_range low high ranges) b ≡ true
 has_new from hi b low high ranges laws are h k = laws.known.ranges.add from hi b low high ranges (omega arith) are
     ∙ or_right (has_address ranges b) (lies_in (b, b) (low, high)) (and_from (nat_le low b) (nat_le b high) (le-leb low b h) (le-leb b high k))
 
@@ -210,7 +216,8 @@ no_meeting lo hi first last b low high after before e =
     let both : (nat_lt last lo || nat_lt hi first) ≡ false = or_from (nat_lt last lo) (nat_lt hi first) one two in
     absurd (cc)
 
-touch_has : (laws : Premises) (lo hi first last b : ℕ) (touched : List (ℕ × ℕ)) → AreRanges lo hi touched → lo ≤ b → b ≤ hi → first ≤ b → b ≤ last
+touch_has : (laws : Premises) (lo hi first last b : ℕ) (touched : List (ℕ × ℕ)) → AreRanges lo hi touched → lo ≤ b
+    → b ≤ hi → first ≤ b → b ≤ last
     → has_address (touch lo hi first last touched) b ≡ true
 touch_has laws lo hi first last b touched are low high after before =
     cond_both (nat_lt last lo || nat_lt hi first) touched (with_range (max lo first) (min hi last) touched) (λ ranges. has_address ranges b ≡ true)
@@ -224,7 +231,8 @@ each_grows laws lo hi size (at ∷ rest) touched le some are =
     let one = touch_grows laws lo hi at (at + size - 1) touched le (omega arith) are in
     grows_on one (each_grows laws lo hi size rest (touch lo hi at (at + size - 1) touched) le some one.form)
 
-each_touched : (laws : Premises) (lo hi size at b : ℕ) (list : List ℕ) (touched : List (ℕ × ℕ)) → 1 ≤ size → AreRanges lo hi touched → Contains list at → lo ≤ b → b ≤ hi → at ≤ b
+each_touched : (laws : Premises) (lo hi size at b : ℕ) (list : List ℕ) (touched : List (ℕ × ℕ)) → 1 ≤ size
+    → AreRanges lo hi touched → Contains list at → lo ≤ b → b ≤ hi → at ≤ b
     → b ≤ at + size - 1
     → has_address (touch_each lo hi size list touched) b ≡ true
 each_touched laws lo hi size at b [] touched some are there low high after before = absurd (in_none at there)
@@ -238,7 +246,8 @@ each_touched laws lo hi size at b (first ∷ rest) touched some are there low hi
       | inr later ↦ each_touched laws lo hi size at b rest next some one.form later low high after before
     ]
 
-pub behind_grows : (laws : Premises) (lo hi size : ℕ) (set_so : Form) (touched : List (ℕ × ℕ)) → lo ≤ hi → 1 ≤ size → AreRanges lo hi touched
+pub behind_grows : (laws : Premises) (lo hi size : ℕ) (set_so : Form) (touched : List (ℕ × ℕ)) → lo ≤ hi → 1 ≤ size
+    → AreRanges lo hi touched
     → Grows lo hi touched (touched_behind lo hi size set_so touched)
 behind_grows laws lo hi size (Values xs) touched le some are = each_grows laws lo hi size xs touched le some are
 behind_grows laws lo hi size (Run p) touched le some are =
@@ -246,7 +255,8 @@ behind_grows laws lo hi size (Run p) touched le some are =
     (λ e. record { form = laws.known.ranges.add_form lo hi lo hi touched (omega arith) le (omega arith) are; keeps = λ b has. has_more lo hi b lo hi touched laws le are has })
     (λ e. touch_grows laws lo hi p.base (p.base + reach p + size - 1) touched le (omega arith) are)
 
-behind_touched : (laws : Premises) (lo hi size at b : ℕ) (set_so : Form) (touched : List (ℕ × ℕ)) → 1 ≤ size → AreRanges lo hi touched → Has 65536 set_so at → lo ≤ b → b ≤ hi
+behind_touched : (laws : Premises) (lo hi size at b : ℕ) (set_so : Form) (touched : List (ℕ × ℕ)) → 1 ≤ size
+    → AreRanges lo hi touched → Has 65536 set_so at → lo ≤ b → b ≤ hi
     → at ≤ b → b ≤ at + size - 1
     → has_address (touched_behind lo hi size set_so touched) b ≡ true
 behind_touched laws lo hi size at b (Values xs) touched some are there low high after before = each_touched laws lo hi size at b xs touched some are there low high after before
@@ -260,7 +270,8 @@ behind_touched laws lo hi size at b (Run p) touched some are there low high afte
     touch_has laws lo hi p.base (p.base + reach p + size - 1) b touched are low high (omega (arith, plain, after)) (omega (arith, plain, most, before)))
 
 -- a byte that a store doesn't write stays
-unwritten : (device : Device) (ram : List ℕ) (width : Width) (address value b : ℕ) → (aligned device width address ≤ b → b ≤ aligned device width address + size_of width - 1 → ⊥)
+unwritten : (device : Device) (ram : List ℕ) (width : Width) (address value b : ℕ)
+    → (aligned device width address ≤ b → b ≤ aligned device width address + size_of width - 1 → ⊥)
     → ram_byte device (with_stored device ram width address value) b ≡ ram_byte device ram b
 unwritten device ram Byte address value b other = byte_elsewhere device ram (aligned device Byte address) value b (λ e. other (omega (arith, e)) (omega (arith, e)))
 unwritten device ram Words address value b other =
@@ -278,7 +289,8 @@ some_size Byte = omega arith
 
 stays_untouched : (laws : Premises) {device : Device} (ram : List ℕ) (width : Width) (address value : ℕ) (set_so : Form) (touched : List (ℕ × ℕ)) (f : ChipState)
     → IsDevice device
-    → AreRanges device.ram.lo device.ram.hi touched → Has 65536 set_so (aligned device width address) → KeepsUntouched device touched ram (Some f) → (b : ℕ)
+    → AreRanges device.ram.lo device.ram.hi touched → Has 65536 set_so (aligned device width address)
+    → KeepsUntouched device touched ram (Some f) → (b : ℕ)
     → has_address (touched_behind device.ram.lo device.ram.hi (size_of width) set_so touched) b ≡ false
     → ram_byte device (with_stored device ram width address value) b ≡ ram_byte device f.ram b
 stays_untouched laws {device} ram width address value set_so touched f is are has keeps b none =
@@ -295,7 +307,8 @@ stays_untouched laws {device} ram width address value set_so touched f is are ha
 
 store_untouched : (laws : Premises) {device : Device} (framed : Bool) (ram : List ℕ) (width : Width) (address value : ℕ) (set_so : Form) (touched : List (ℕ × ℕ))
     (first : Option ChipState) → IsDevice device
-    → (framed ≡ false → first ≡ None) → AreRanges device.ram.lo device.ram.hi touched → Has 65536 set_so (aligned device width address) → KeepsUntouched device touched ram first
+    → (framed ≡ false → first ≡ None) → AreRanges device.ram.lo device.ram.hi touched
+    → Has 65536 set_so (aligned device width address) → KeepsUntouched device touched ram first
     → KeepsUntouched device (if framed then touched_behind device.ram.lo device.ram.hi (size_of width) set_so touched else touched)
     (with_stored device ram width address value) first
 store_untouched laws framed ram width address value set_so touched None is base are has keeps = tt
@@ -305,7 +318,8 @@ store_untouched laws false ram width address value set_so touched (Some f) is ba
 -- what is known behind a store holds behind it
 pub store_holds : (laws : Premises) {device : Device} {framed : Bool} {a : Known} {first : Option ChipState} {registers ram : List ℕ} {width : Width} (address value : ℕ)
     {set_so : Form} {word : Word} → IsDevice device → IsRam device ram
-    → (framed ≡ false → first ≡ None) → IsKnown device.ram.lo device.ram.hi framed a → address < 65536 → IsResult 65536 set_so (aligned device width address)
+    → (framed ≡ false → first ≡ None) → IsKnown device.ram.lo device.ram.hi framed a → address < 65536
+    → IsResult 65536 set_so (aligned device width address)
     → value < modulus width → IsStorable width word
     → HoldsOfWord (option_map suspended_of first) word value → HoldsOfParts device a first registers ram
     → HoldsOfParts device (with_store device framed a width set_so word) first registers (with_stored device ram width address value)

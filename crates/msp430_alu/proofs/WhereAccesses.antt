@@ -32,7 +32,8 @@ IsIf P None = Unit {0}
 IsIf P (Some set) = P set
 
 -- what a window cuts out has the numbers of the window
-cut_there : (laws : Premises) {set : Form} (low len : ℕ) {v : ℕ} (found : Option Form) → cut 65536 set low len ≡ found → low < 65536 → IsResult 65536 set v
+cut_there : (laws : Premises) {set : Form} (low len : ℕ) {v : ℕ} (found : Option Form) → cut 65536 set low len ≡ found
+    → low < 65536 → IsResult 65536 set v
     → above 65536 low v < len → IsThere found v
 cut_there laws {set} low len {v} None is small result lt =
     let past : len ≤ above 65536 low v = laws.known.sets.cut_none 65536 low len v set result.normal small is result.has in absurd (omega (arith, past, lt))
@@ -42,7 +43,8 @@ cut_there laws {set} low len {v} (Some part) is small result lt =
       has = laws.known.sets.cut_holds 65536 low len v set part result.normal small is result.has lt;
     }
 
-moved_there : (laws : Premises) (by v : ℕ) (found : Option Form) → by < 65536 → IsThere found v → IsThere (moved by found) ((v + by) % 65536)
+moved_there : (laws : Premises) (by v : ℕ) (found : Option Form) → by < 65536 → IsThere found v
+    → IsThere (moved by found) ((v + by) % 65536)
 moved_there laws by v None small there = absurd there
 moved_there laws by v (Some part) small there = add_is laws.known 65536 v by part (single by) there (single_is laws.known 65536 by small)
 
@@ -72,11 +74,13 @@ even_kept laws = record {
   };
 }
 
-cut_if : (P : Form → Type 0) → IsKept P → (set : Form) (low len : ℕ) (found : Option Form) → cut 65536 set low len ≡ found → low < 65536 → P set → IsIf P found
+cut_if : (P : Form → Type 0) → IsKept P → (set : Form) (low len : ℕ) (found : Option Form)
+    → cut 65536 set low len ≡ found → low < 65536 → P set → IsIf P found
 cut_if P kept set low len None is small holds = tt
 cut_if P kept set low len (Some part) is small holds = kept.cuts set part low len small is holds
 
-moved_if : (P : Form → Type 0) → IsKept P → (by : ℕ) (found : Option Form) → by < 65536 → by % 2 ≡ 0 → IsIf P found → IsIf P (moved by found)
+moved_if : (P : Form → Type 0) → IsKept P → (by : ℕ) (found : Option Form) → by < 65536 → by % 2 ≡ 0 → IsIf P found
+    → IsIf P (moved by found)
 moved_if P kept by None small no_bit holds = tt
 moved_if P kept by (Some part) small no_bit holds = kept.moves part by small no_bit holds
 
@@ -94,7 +98,8 @@ second_there laws set None (Some b) v normal there = there
 second_there laws set (Some a) (Some b) v normal there =
     join_second_is laws.known 65536 v a b normal there
 
-both_if : (P : Form → Type 0) → IsKept P → (set : Form) (one other : Option Form) → P set → IsIf P one → IsIf P other → P (of_both set (join_parts 65536 one other))
+both_if : (P : Form → Type 0) → IsKept P → (set : Form) (one other : Option Form) → P set → IsIf P one → IsIf P other
+    → P (of_both set (join_parts 65536 one other))
 both_if P kept set None None holds f g = holds
 both_if P kept set None (Some b) holds f g = g
 both_if P kept set (Some a) None holds f g = f
@@ -114,7 +119,8 @@ outside_window first last v up end small outside = elim (cases_Bool (nat_le firs
 -- THE MIRROR
 
 -- the address that a number of the set stands for is one of the canonical set's
-canonical_is : (laws : Premises) (lo hi : ℕ) (mirror : Option (ℕ × ℕ)) {set : Form} {v : ℕ} → lo < hi → hi < 65536 → lo % 2 ≡ 0 → HasMirror lo hi mirror → IsResult 65536 set v
+canonical_is : (laws : Premises) (lo hi : ℕ) (mirror : Option (ℕ × ℕ)) {set : Form} {v : ℕ} → lo < hi → hi < 65536
+    → lo % 2 ≡ 0 → HasMirror lo hi mirror → IsResult 65536 set v
     → IsResult 65536 (canonical_by lo mirror set) (canon_by lo mirror v)
 canonical_is laws lo hi None some top even_lo is result = result
 canonical_is laws lo hi (Some (first, last)) {set} {v} some top even_lo is result =
@@ -151,7 +157,8 @@ canonical_is laws lo hi (Some (first, last)) {set} {v} some top even_lo is resul
           subst (IsResult 65536 (canonical_by lo (Some (first, last)) set)) (sym (cond-false (nat_le first v && nat_le v last) (lo + (v - first)) v outside)) all
     ]
 
-canonical_kept : (P : Form → Type 0) → IsKept P → (lo hi : ℕ) (mirror : Option (ℕ × ℕ)) (set : Form) → lo % 2 ≡ 0 → HasMirror lo hi mirror → P set
+canonical_kept : (P : Form → Type 0) → IsKept P → (lo hi : ℕ) (mirror : Option (ℕ × ℕ)) (set : Form) → lo % 2 ≡ 0
+    → HasMirror lo hi mirror → P set
     → P (canonical_by lo mirror set)
 canonical_kept P kept lo hi None set even_lo is holds = holds
 canonical_kept P kept lo hi (Some (first, last)) set even_lo is holds =
@@ -174,27 +181,32 @@ pub aligned_even : (laws : Premises) {device : Device} → HasRam device → (at
 aligned_even laws {device} is at = laws.made_even device at is
 
 -- the bytes of an access stand below 65536
-pub aligned_fits : (laws : Premises) {device : Device} → HasRam device → (width : Width) (at : ℕ) → at < 65536 → aligned device width at + size_of width ≤ 65536
+pub aligned_fits : (laws : Premises) {device : Device} → HasRam device → (width : Width) (at : ℕ) → at < 65536
+    → aligned device width at + size_of width ≤ 65536
 aligned_fits laws {device} is width at small = laws.made_fits device width at is small
 
-pub located_is : (laws : Premises) {device : Device} → HasRam device → (width : Width) {set : Form} {address : ℕ} → IsResult 65536 set address
+pub located_is : (laws : Premises) {device : Device} → HasRam device → (width : Width) {set : Form} {address : ℕ}
+    → IsResult 65536 set address
     → IsResult 65536 (located device width set) (aligned device width address)
 located_is laws {device} is Words {set} {address} result =
     canonical_is laws device.ram.lo device.ram.hi device.ram.mirror is.some is.top is.low is.mirror (even_parts_is laws.known set address result)
 located_is laws {device} is Byte result = canonical_is laws device.ram.lo device.ram.hi device.ram.mirror is.some is.top is.low is.mirror result
 
-pub located_normal : (laws : Premises) {device : Device} → HasRam device → (width : Width) (set : Form) → IsNormal 65536 set → IsNormal 65536 (located device width set)
+pub located_normal : (laws : Premises) {device : Device} → HasRam device → (width : Width) (set : Form)
+    → IsNormal 65536 set → IsNormal 65536 (located device width set)
 located_normal laws {device} is Words set normal =
     canonical_kept (IsNormal 65536) (normal_kept laws) device.ram.lo device.ram.hi device.ram.mirror _ is.low is.mirror (even_parts_form laws.known set normal).normal
 located_normal laws {device} is Byte set normal = canonical_kept (IsNormal 65536) (normal_kept laws) device.ram.lo device.ram.hi device.ram.mirror set is.low is.mirror normal
 
-pub located_even : (laws : Premises) {device : Device} → HasRam device → (width : Width) (set : Form) → IsNormal 65536 set → size_of width ≡ 2
+pub located_even : (laws : Premises) {device : Device} → HasRam device → (width : Width) (set : Form)
+    → IsNormal 65536 set → size_of width ≡ 2
     → HasRemainder 65536 2 0 (located device width set)
 located_even laws {device} is Words set normal e =
     (canonical_kept AreEvenWords (even_kept laws) device.ram.lo device.ram.hi device.ram.mirror _ is.low is.mirror (even_parts_form laws.known set normal)).even
 located_even laws is Byte set normal e = absurd (omega (arith, e))
 
-pub located_fits : (laws : Premises) (device : Device) → HasRam device → (width : Width) (set : Form) (v : ℕ) → IsNormal 65536 set → Has 65536 (located device width set) v
+pub located_fits : (laws : Premises) (device : Device) → HasRam device → (width : Width) (set : Form) (v : ℕ)
+    → IsNormal 65536 set → Has 65536 (located device width set) v
     → v + size_of width ≤ 65536
 located_fits laws device is Words set v normal has =
     let below = laws.known.sets.below 65536 v (located device Words set) (located_normal laws is Words set normal) has in

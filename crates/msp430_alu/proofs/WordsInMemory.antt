@@ -31,7 +31,8 @@ word_located laws device set at is normal has = (located_is laws is Words (recor
 
 pub word_stored : (laws : Premises) (device : Device) (framed : Bool) (a : Known) (first : Option ChipState) (registers ram : List ℕ) (set : Form) (at v : ℕ) (word : Word)
     → IsDevice device → IsRam device ram
-    → (framed ≡ false → first ≡ None) → IsKnown device.ram.lo device.ram.hi framed a → IsNormal 65536 set → Has 65536 set at → IsWord framed word
+    → (framed ≡ false → first ≡ None) → IsKnown device.ram.lo device.ram.hi framed a → IsNormal 65536 set
+    → Has 65536 set at → IsWord framed word
     → HoldsOfWord (option_map suspended_of first) word v
     → HoldsOfParts device a first registers ram
     → HoldsOfParts device (with_store device framed a Words (located device Words set) word) first registers (with_stored device ram Words at v)
@@ -40,7 +41,8 @@ word_stored laws device framed a first registers ram set at v word is ram_is bas
     (located_is laws is.ram Words (record { normal = normal; has = has }))
     (laws.known.sets.below 65536 v word.set word_so.normal holds.0) (record { normal = word_so.normal; byte = λ e. absurd (omega (arith, e)) }) holds parts
 
-pub word_stored_form : (laws : Premises) (device : Device) (framed : Bool) (a : Known) (set : Form) (word : Word) → IsDevice device → IsKnown device.ram.lo device.ram.hi framed a
+pub word_stored_form : (laws : Premises) (device : Device) (framed : Bool) (a : Known) (set : Form) (word : Word)
+    → IsDevice device → IsKnown device.ram.lo device.ram.hi framed a
     → IsNormal 65536 set → IsWord framed word
     → IsKnown device.ram.lo device.ram.hi framed (with_store device framed a Words (located device Words set) word)
 word_stored_form laws device framed a set word is form normal word_so =
@@ -50,15 +52,18 @@ word_stored_form laws device framed a set word is form normal word_so =
 
 -- READS
 
-pub word_read : (laws : Premises) (device : Device) (framed : Bool) (a : Known) (first : Option ChipState) (registers ram : List ℕ) (set : Form) (at word : ℕ) → IsDevice device
+pub word_read : (laws : Premises) (device : Device) (framed : Bool) (a : Known) (first : Option ChipState) (registers ram : List ℕ) (set : Form) (at word : ℕ)
+    → IsDevice device
     → IsKnown device.ram.lo device.ram.hi framed a → IsNormal 65536 set → Has 65536 set at → HoldsOfParts device a first registers ram
-    → MayReadWord device ram at word → HoldsOfWord (option_map suspended_of first) (read_known device a Words (located device Words set)) word
+    → MayReadWord device ram at word
+    → HoldsOfWord (option_map suspended_of first) (read_known device a Words (located device Words set)) word
 word_read laws device framed a first registers ram set at word is form normal has parts reads =
     let under = option_map suspended_of first in
     let memory : IsMemory device a under ram = record { device_so = is; cells = form.cells; stands = parts.cells } in
     (known_held laws memory Words word (record { normal = normal; has = has }) reads).holds
 
-pub word_read_form : (laws : Premises) (device : Device) (framed : Bool) (a : Known) (set : Form) → IsDevice device → IsKnown device.ram.lo device.ram.hi framed a
+pub word_read_form : (laws : Premises) (device : Device) (framed : Bool) (a : Known) (set : Form) → IsDevice device
+    → IsKnown device.ram.lo device.ram.hi framed a
     → IsWord framed (read_known device a Words set)
 word_read_form laws device framed a set is form = record {
   normal = read_known_normal laws a is form.cells Words set;

@@ -71,7 +71,8 @@ status_relation framed None form = tt
 status_relation false (Some entry) form = form
 status_relation true (Some entry) (place, and_small, high, or_small) = (ap is_place place, and_small, omega (arith, or_small))
 
-register_word_form : (laws : Premises) {lo hi : ℕ} {framed : Bool} {a : Known} (counted : Form) → IsKnown lo hi framed a → IsNormal 65536 counted → {register : Register}
+register_word_form : (laws : Premises) {lo hi : ℕ} {framed : Bool} {a : Known} (counted : Form) → IsKnown lo hi framed a
+    → IsNormal 65536 counted → {register : Register}
     → Kind register → IsWord framed (register_word a counted register)
 register_word_form laws {framed} counted form normal (Counter e) = rw e (record { normal = normal; entry = no_relation framed })
 register_word_form laws {framed} counted form normal (Stack e) = rw e (record { normal = form.sp.normal; entry = no_relation framed })
@@ -86,13 +87,15 @@ abbrev pub IsReachNormal : Reach → Type 0
 IsReachNormal (InMemory set_so) = IsNormal 65536 set_so
 IsReachNormal other = Unit {0}
 
-beside_form : (laws : Premises) {lo hi : ℕ} {framed : Bool} {a : Known} (counted : Form) → IsKnown lo hi framed a → IsNormal 65536 counted → (register : Register) (offset : ℕ)
+beside_form : (laws : Premises) {lo hi : ℕ} {framed : Bool} {a : Known} (counted : Form) → IsKnown lo hi framed a
+    → IsNormal 65536 counted → (register : Register) (offset : ℕ)
     → offset < 65536
     → IsNormal 65536 (beside a counted register offset)
 beside_form laws {a} counted form normal register offset small =
     moved_normal laws.known (register_word a counted register).set offset small (register_word_form laws counted form normal (laws.kinds register)).normal
 
-pub source_form : (laws : Premises) {lo hi : ℕ} {framed : Bool} {a : Known} (counted : Form) → IsKnown lo hi framed a → IsNormal 65536 counted → (pc : ℕ) (origin : Source)
+pub source_form : (laws : Premises) {lo hi : ℕ} {framed : Bool} {a : Known} (counted : Form) → IsKnown lo hi framed a
+    → IsNormal 65536 counted → (pc : ℕ) (origin : Source)
     → IsSource origin
     → IsReachNormal (source_reach pc a counted origin)
 source_form laws counted form normal pc (source.Register register) is = tt
@@ -104,7 +107,8 @@ source_form laws counted form normal pc (source.Symbolic offset) is = (laws.know
 source_form laws counted form normal pc (source.Absolute address) is = (laws.known.sets.single 65536 address is).0
 source_form laws counted form normal pc (source.Constant constant) is = tt
 
-pub destination_form : (laws : Premises) {lo hi : ℕ} {framed : Bool} {a : Known} (counted : Form) → IsKnown lo hi framed a → IsNormal 65536 counted
+pub destination_form : (laws : Premises) {lo hi : ℕ} {framed : Bool} {a : Known} (counted : Form)
+    → IsKnown lo hi framed a → IsNormal 65536 counted
     → (pc len : ℕ) (target : Destination) → IsDestination target
     → IsReachNormal (destination_reach pc len a counted target)
 destination_form laws counted form normal pc len (destination.Register register) is = tt
@@ -112,7 +116,8 @@ destination_form laws counted form normal pc len (destination.Indexed register o
 destination_form laws counted form normal pc len (destination.Symbolic offset) is = (laws.known.sets.single 65536 ((pc + len - 2 + offset) % 65536) (omega arith)).0
 destination_form laws counted form normal pc len (destination.Absolute address) is = (laws.known.sets.single 65536 address is).0
 
-pub grown_form : (laws : Premises) {lo hi : ℕ} {framed : Bool} {a : Known} (counted : Form) → IsKnown lo hi framed a → IsNormal 65536 counted → (width : Width) (origin : Source)
+pub grown_form : (laws : Premises) {lo hi : ℕ} {framed : Bool} {a : Known} (counted : Form) → IsKnown lo hi framed a
+    → IsNormal 65536 counted → (width : Width) (origin : Source)
     → IsKnown lo hi framed (grown_known a counted width origin)
 grown_form laws {framed} {a} counted form normal width (source.IndirectIncrement register) =
     let more = growth width register in
@@ -125,7 +130,8 @@ grown_form laws counted form normal width other = form
 
 -- WHAT THEY HOLD
 
-found_relation : (framed : Bool) (cells : List Cell) (at size : ℕ) (otherwise : Word) → ((c : Cell) → Contains cells c → IsChipCell framed c) → IsRelation framed otherwise.entry
+found_relation : (framed : Bool) (cells : List Cell) (at size : ℕ) (otherwise : Word)
+    → ((c : Cell) → Contains cells c → IsChipCell framed c) → IsRelation framed otherwise.entry
     → IsRelation framed (found_or (cell_at cells at size) otherwise).entry
 found_relation framed [] at size otherwise forms none = none
 found_relation framed (cell ∷ cells) at size otherwise forms none =
@@ -133,7 +139,8 @@ found_relation framed (cell ∷ cells) at size otherwise forms none =
     (λ e. (forms cell (in_first cell cells)).entry)
     (λ e. found_relation framed cells at size otherwise (λ c there. forms c (in_rest cell cells c there)) none)
 
-read_relation : (framed : Bool) (cells : List Cell) (at size : ℕ) → ((c : Cell) → Contains cells c → IsChipCell framed c) → IsRelation framed (read cells at size).entry
+read_relation : (framed : Bool) (cells : List Cell) (at size : ℕ)
+    → ((c : Cell) → Contains cells c → IsChipCell framed c) → IsRelation framed (read cells at size).entry
 unfolding read
 read_relation framed cells at size forms = found_relation framed cells at size (put_together cells at size) forms (no_relation framed)
 
@@ -156,7 +163,8 @@ one_relation {framed} device {a} width at form =
     cond_both (is_ram device at) (read a.cells.cells at (size_of width)) (program_word device width at) (λ word. IsRelation framed word.entry)
     (λ e. read_relation framed a.cells.cells at (size_of width) form.each_cell) (λ e. program_relation framed device width at)
 
-pub list_relation : {framed : Bool} (device : Device) {a : Known} (width : Width) (list : List ℕ) → IsKnown device.ram.lo device.ram.hi framed a
+pub list_relation : {framed : Bool} (device : Device) {a : Known} (width : Width) (list : List ℕ)
+    → IsKnown device.ram.lo device.ram.hi framed a
     → IsRelation framed (read_list device a width list).entry
 list_relation {framed} device width [] form = no_relation framed
 list_relation device width (only ∷ []) form = one_relation device width only form
@@ -168,16 +176,19 @@ abbrev pub IsReachSmall : Reach → Type 0
 IsReachSmall (Fixed value) = value < 65536
 IsReachSmall other = Unit {0}
 
-pub source_small : (pc : ℕ) (a : Known) (counted : Form) (origin : Source) → IsSource origin → IsReachSmall (source_reach pc a counted origin)
+pub source_small : (pc : ℕ) (a : Known) (counted : Form) (origin : Source) → IsSource origin
+    → IsReachSmall (source_reach pc a counted origin)
 source_small pc a counted (source.Immediate value) is = is
 source_small pc a counted (source.Constant constant) is = constant_small constant
 source_small pc a counted other is = tt
 
-pub destination_small : (pc len : ℕ) (a : Known) (counted : Form) (target : Destination) → IsReachSmall (destination_reach pc len a counted target)
+pub destination_small : (pc len : ℕ) (a : Known) (counted : Form) (target : Destination)
+    → IsReachSmall (destination_reach pc len a counted target)
 destination_small pc len a counted (destination.Register register) = tt
 destination_small pc len a counted other = tt
 
-pub operand_form : (laws : Premises) {device : Device} {framed : Bool} {a : Known} (counted : Form) → IsDevice device → IsKnown device.ram.lo device.ram.hi framed a
+pub operand_form : (laws : Premises) {device : Device} {framed : Bool} {a : Known} (counted : Form) → IsDevice device
+    → IsKnown device.ram.lo device.ram.hi framed a
     → IsNormal 65536 counted → (width : Width) (reach : Reach)
     → IsReachSmall reach → IsWord framed (operand_word device a counted width reach)
 operand_form laws counted is form normal width (InRegister register) small = register_word_form laws counted form normal (laws.kinds register)
@@ -187,26 +198,31 @@ operand_form laws {device} {a} counted is form normal width (InMemory set_so) sm
 }
 operand_form laws {framed} counted is form normal width (Fixed value) small = record { normal = (laws.known.sets.single 65536 value small).0; entry = no_relation framed }
 
-pub values_form : (laws : Premises) {framed : Bool} (width : Width) {word : Word} → IsWord framed word → IsNormal (modulus width) (values_of width word)
+pub values_form : (laws : Premises) {framed : Bool} (width : Width) {word : Word} → IsWord framed word
+    → IsNormal (modulus width) (values_of width word)
 values_form laws Words is = is.normal
 values_form laws Byte {word} is = laws.known.bits.low_normal word.set is.normal
 
 -- RELATIONS OF RESULTS
 
-masked_and_form : (framed : Bool) (constant : Option ℕ) (entry : Option Entry) → IsRelation framed entry → IsRelation framed (masked_and constant entry)
+masked_and_form : (framed : Bool) (constant : Option ℕ) (entry : Option Entry) → IsRelation framed entry
+    → IsRelation framed (masked_and constant entry)
 masked_and_form framed None entry form = no_relation framed
 masked_and_form framed (Some m) entry form = and_form framed m entry form
 
-masked_clear_form : (framed : Bool) (constant : Option ℕ) (entry : Option Entry) → IsRelation framed entry → IsRelation framed (masked_clear constant entry)
+masked_clear_form : (framed : Bool) (constant : Option ℕ) (entry : Option Entry) → IsRelation framed entry
+    → IsRelation framed (masked_clear constant entry)
 masked_clear_form framed None entry form = no_relation framed
 masked_clear_form framed (Some m) entry form = and_form framed (65535 - m) entry form
 
-masked_or_form : (framed : Bool) (constant : Option ℕ) (entry : Option Entry) → ((m : ℕ) → constant ≡ Some m → m < 65536) → IsRelation framed entry
+masked_or_form : (framed : Bool) (constant : Option ℕ) (entry : Option Entry)
+    → ((m : ℕ) → constant ≡ Some m → m < 65536) → IsRelation framed entry
     → IsRelation framed (masked_or constant entry)
 masked_or_form framed None entry small form = no_relation framed
 masked_or_form framed (Some m) entry small form = or_form framed m entry (small m refl) form
 
-relation_form : (framed : Bool) (done : Operation) (constant : Option ℕ) (one other : Option Entry) → ((m : ℕ) → constant ≡ Some m → m < 65536) → IsRelation framed one
+relation_form : (framed : Bool) (done : Operation) (constant : Option ℕ) (one other : Option Entry)
+    → ((m : ℕ) → constant ≡ Some m → m < 65536) → IsRelation framed one
     → IsRelation framed other
     → IsRelation framed (relation_of done constant one other)
 relation_form framed operation.Mov constant one other small h k = h
@@ -237,7 +253,8 @@ word_writable is = record {
   };
 }
 
-pub written_form : (laws : Premises) (framed : Bool) (width : Width) (set_so : Form) (entry : Option Entry) → IsNormal (modulus width) set_so → IsRelation framed entry
+pub written_form : (laws : Premises) (framed : Bool) (width : Width) (set_so : Form) (entry : Option Entry)
+    → IsNormal (modulus width) set_so → IsRelation framed entry
     → IsWritable framed width (written_word width set_so entry)
 written_form laws framed Words set_so entry normal form = word_writable (record { normal = normal; entry = form })
 written_form laws framed Byte set_so entry normal form =
@@ -251,7 +268,8 @@ written_form laws framed Byte set_so entry normal form =
       };
     }
 
-pub put_form : (laws : Premises) {device : Device} {framed : Bool} {a : Known} → IsDevice device → IsKnown device.ram.lo device.ram.hi framed a
+pub put_form : (laws : Premises) {device : Device} {framed : Bool} {a : Known} → IsDevice device
+    → IsKnown device.ram.lo device.ram.hi framed a
     → {width : Width} (reach : Reach) {word : Word} → IsReachNormal reach
     → IsWritable framed width word → IsKnown device.ram.lo device.ram.hi framed (put_known device framed a width reach word)
 put_form laws is form (InRegister register) normal writable = register_form laws (laws.kinds register) writable.word_so form
@@ -261,7 +279,8 @@ put_form laws {device} is form {width} (InMemory set_so) normal writable =
     (located_even laws is.ram width set_so normal) writable.cell form
 put_form laws is form (Fixed value) normal writable = form
 
-pub put_if_form : (laws : Premises) {device : Device} {framed : Bool} {a : Known} → IsDevice device → IsKnown device.ram.lo device.ram.hi framed a
+pub put_if_form : (laws : Premises) {device : Device} {framed : Bool} {a : Known} → IsDevice device
+    → IsKnown device.ram.lo device.ram.hi framed a
     → (writes : Bool) {width : Width} (reach : Reach) {word : Word} → IsReachNormal reach
     → IsWritable framed width word → IsKnown device.ram.lo device.ram.hi framed (put_known_if writes device framed a width reach word)
 put_if_form laws is form true reach normal writable = put_form laws is form reach normal writable
@@ -281,7 +300,8 @@ ahead_next laws ahead small = record {
 parts_next : (laws : Premises) (ahead : ℕ) (set_so : Form) → IsNormal 65536 set_so → AreNext ahead (even_parts set_so)
 parts_next laws ahead set_so normal = let parts = even_parts_form laws.known set_so normal in record { normal = parts.normal; even = λ even. parts.even }
 
-next_form : (laws : Premises) (reach : Reach) (word : Word) (ahead : ℕ) → IsNormal 65536 word.set → ahead < 65536 → AreNext ahead (next_by reach word ahead)
+next_form : (laws : Premises) (reach : Reach) (word : Word) (ahead : ℕ) → IsNormal 65536 word.set → ahead < 65536
+    → AreNext ahead (next_by reach word ahead)
 next_form laws (InRegister Pc) word ahead normal small = parts_next laws ahead word.set normal
 next_form laws other word ahead normal small = ahead_next laws ahead small
 
@@ -300,7 +320,8 @@ counter_form laws pc len origin target =
     (λ e. laws.known.sets.join_normal 65536 (single ((pc + 2) % 65536)) (single ((pc + 4) % 65536)) one.0 two.0)
     (λ e. (laws.known.sets.single 65536 ((pc + len) % 65536) (omega arith)).0)
 
-target_form : (laws : Premises) {device : Device} {framed : Bool} {a : Known} (counted : Form) → IsDevice device → IsKnown device.ram.lo device.ram.hi framed a
+target_form : (laws : Premises) {device : Device} {framed : Bool} {a : Known} (counted : Form) → IsDevice device
+    → IsKnown device.ram.lo device.ram.hi framed a
     → IsNormal 65536 counted → (done : Operation) (width : Width) (reach : Reach)
     → IsReachSmall reach → IsWord framed (destination_word device a counted done width reach)
 target_form laws {device} {framed} {a} counted is form normal done width reach small =
@@ -308,7 +329,8 @@ target_form laws {device} {framed} {a} counted is form normal done width reach s
     (λ e. operand_form laws counted is form normal width reach small)
     (λ e. record { normal = (laws.known.sets.single 65536 0 (omega arith)).0; entry = no_relation framed })
 
-made_form : (laws : Premises) {framed : Bool} (done : Operation) (width : Width) (origin : Source) (target : Destination) {one other : Word} (c : Tri) → IsWord framed one
+made_form : (laws : Premises) {framed : Bool} (done : Operation) (width : Width) (origin : Source) (target : Destination) {one other : Word} (c : Tri)
+    → IsWord framed one
     → IsWord framed other
     → IsNormal (modulus width) (made_of done width origin target one other c).0
 made_form laws done width origin target {one} {other} c h k =
@@ -323,7 +345,8 @@ pub record AreMade (device : Device) (framed : Bool) (put_so after : Known) (ahe
   pub after_so : IsKnown device.ram.lo device.ram.hi framed after
   pub next_so : AreNext ahead next
 
-pub double_forms : (laws : Premises) {device : Device} {framed : Bool} {a : Known} → IsDevice device → IsKnown device.ram.lo device.ram.hi framed a
+pub double_forms : (laws : Premises) {device : Device} {framed : Bool} {a : Known} → IsDevice device
+    → IsKnown device.ram.lo device.ram.hi framed a
     → (pc len : ℕ) (done : Operation) (width : Width) (origin : Source) (target : Destination)
     → IsSource origin → IsDestination target
     → let counted = counter_set pc len origin target in
@@ -365,7 +388,8 @@ pub record WorkedForm (device : Device) (framed : Bool) (after : Known) (ahead :
   pub next_so : AreNext ahead next
 
 pub double_worked_form : (laws : Premises)
-    → {device : Device} {framed : Bool} {a : Known} (pc len : ℕ) (done : Operation) (width : Width) (origin : Source) (target : Destination) → IsDevice device
+    → {device : Device} {framed : Bool} {a : Known} (pc len : ℕ) (done : Operation) (width : Width) (origin : Source) (target : Destination)
+    → IsDevice device
     → IsKnown device.ram.lo device.ram.hi framed a → IsSource origin → IsDestination target
     → WorkedForm device framed (double_worked device framed a pc len done width origin target).after ((pc + len) % 65536)
     (double_worked device framed a pc len done width origin target).next
@@ -376,7 +400,8 @@ double_worked_form laws pc len done width origin target is form from_so to_so =
 
 -- ONE OPERAND
 
-pub single_forms : (laws : Premises) {device : Device} {framed : Bool} {a : Known} → IsDevice device → IsKnown device.ram.lo device.ram.hi framed a
+pub single_forms : (laws : Premises) {device : Device} {framed : Bool} {a : Known} → IsDevice device
+    → IsKnown device.ram.lo device.ram.hi framed a
     → (pc len : ℕ) (done : SingleOperation) (width : Width) (operand : Source)
     → IsSource operand → HasWidth done width
     → let counted = single ((pc + len) % 65536) in
@@ -406,7 +431,8 @@ single_forms laws {device} {framed} {a} is form pc len done width operand from_s
       next_so = next_form laws from word ((pc + len) % 65536) writable.word_so.normal (omega arith);
     }
 
-pub single_worked_form : (laws : Premises) → {device : Device} {framed : Bool} {a : Known} (pc len : ℕ) (done : SingleOperation) (width : Width) (operand : Source)
+pub single_worked_form : (laws : Premises)
+    → {device : Device} {framed : Bool} {a : Known} (pc len : ℕ) (done : SingleOperation) (width : Width) (operand : Source)
     → IsDevice device
     → IsKnown device.ram.lo device.ram.hi framed a → IsSource operand → HasWidth done width
     → WorkedForm device framed (single_worked device framed a pc len done width operand).after ((pc + len) % 65536) (single_worked device framed a pc len done width operand).next
@@ -421,33 +447,38 @@ lowered_form : (laws : Premises) {lo hi : ℕ} {framed : Bool} {a : Known} → I
 lowered_form laws {a} form =
     sp_form laws (add 65536 a.sp (single 65534)) (moved_normal laws.known a.sp 65534 (omega arith) form.sp.normal) form
 
-forming_form : (laws : Premises) {lo hi : ℕ} {framed : Bool} {a : Known} (operand : Source) → IsKnown lo hi framed a → IsKnown lo hi framed (forming_known operand a)
+forming_form : (laws : Premises) {lo hi : ℕ} {framed : Bool} {a : Known} (operand : Source) → IsKnown lo hi framed a
+    → IsKnown lo hi framed (forming_known operand a)
 forming_form laws {lo} {hi} {framed} {a} operand form =
     let less = add 65536 a.sp (single 65534) in
     let less_normal = moved_normal laws.known a.sp 65534 (omega arith) form.sp.normal in
     cond_both (is_formed_by_stack operand) (with_sp a (join 65536 a.sp less)) a (IsKnown lo hi framed)
     (λ e. sp_form laws (join 65536 a.sp less) (laws.known.sets.join_normal 65536 a.sp less form.sp.normal less_normal) form) (λ e. form)
 
-byte_form : (laws : Premises) {framed : Bool} {x : Word} → IsWord framed x → IsWord framed (record { set = pair_set (values_of Byte x) (make 256 0 1 256); entry = None })
+byte_form : (laws : Premises) {framed : Bool} {x : Word} → IsWord framed x
+    → IsWord framed (record { set = pair_set (values_of Byte x) (make 256 0 1 256); entry = None })
 byte_form laws {framed} {x} is = record {
   normal = laws.known.bits.pair_normal (values_of Byte x) (make 256 0 1 256) (values_form laws Byte is) (laws.known.sets.whole_normal 256 (omega arith));
   entry = no_relation framed;
 }
 
-pushed_form : (laws : Premises) {framed : Bool} (done : SingleOperation) (width : Width) {x : Word} (after : ℕ) → after < 65536 → IsWord framed x
+pushed_form : (laws : Premises) {framed : Bool} (done : SingleOperation) (width : Width) {x : Word} (after : ℕ)
+    → after < 65536 → IsWord framed x
     → IsWord framed (pushed_known done width x after)
 pushed_form laws {framed} Call width after small is = record { normal = (laws.known.sets.single 65536 after small).0; entry = no_relation framed }
 pushed_form laws other Words after small is = is
 pushed_form laws other Byte after small is = byte_form laws is
 
-called_form : (laws : Premises) {framed : Bool} (done : SingleOperation) (width : Width) {x : Word} (after : ℕ) → after < 65536 → IsWord framed x
+called_form : (laws : Premises) {framed : Bool} (done : SingleOperation) (width : Width) {x : Word} (after : ℕ)
+    → after < 65536 → IsWord framed x
     → AreNext after (called_next done width x after)
 called_form laws {framed} Call width {x} after small is =
     let target = written_word width (values_of width x) None in
     parts_next laws after target.set (written_form laws framed width (values_of width x) None (values_form laws width is) (no_relation framed)).word_so.normal
 called_form laws other width after small is = ahead_next laws after small
 
-pub push_worked_form : (laws : Premises) → {device : Device} {framed : Bool} {a : Known} (pc len : ℕ) (done : SingleOperation) (width : Width) (operand : Source)
+pub push_worked_form : (laws : Premises)
+    → {device : Device} {framed : Bool} {a : Known} (pc len : ℕ) (done : SingleOperation) (width : Width) (operand : Source)
     → IsDevice device
     → IsKnown device.ram.lo device.ram.hi framed a → IsSource operand
     → WorkedForm device framed (push_worked device framed a pc len done width operand).after ((pc + len) % 65536) (push_worked device framed a pc len done width operand).next

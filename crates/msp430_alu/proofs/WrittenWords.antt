@@ -20,14 +20,18 @@ values_normal laws Words word normal = normal
 values_normal laws Byte word normal = laws.known.bits.low_normal word.set normal
 
 -- a byte result is below 100h
-pub written_byte : (laws : Premises) (width : Width) (set : Form) (entry : Option Entry) → IsNormal (modulus width) set → size_of width ≡ 1 → (v : ℕ)
+pub written_byte : (laws : Premises) (width : Width) (set : Form) (entry : Option Entry) → IsNormal (modulus width) set
+    → size_of width ≡ 1 → (v : ℕ)
     → Has 65536 (written_word width set entry).set v → v < 256
 written_byte laws Words set entry normal e v has = absurd (omega (arith, e))
 written_byte laws Byte set entry normal e v has = laws.known.bits.pair_byte set v normal has
 
-pub double_byte : (laws : Premises) (done : Operation) (width : Width) (one other : Word) (carry : Tri) (entry : Option Entry) → IsNormal 65536 one.set → IsNormal 65536 other.set
+pub double_byte : (laws : Premises) (done : Operation) (width : Width) (one other : Word) (carry : Tri) (entry : Option Entry)
+    → IsNormal 65536 one.set → IsNormal 65536 other.set
     → size_of width ≡ 1
-    → (v : ℕ) → Has 65536 (written_word width (double_made done width (values_of width one) (values_of width other) carry).0 entry).set v → v < 256
+    → (v : ℕ)
+    → Has 65536 (written_word width (double_made done width (values_of width one) (values_of width other) carry).0 entry).set v
+    → v < 256
 double_byte laws done width one other carry entry h k =
     written_byte laws width (double_made done width (values_of width one) (values_of width other) carry).0 entry
     (laws.results.double_normal done width (values_of width one) (values_of width other) carry (values_normal laws width one h) (values_normal laws width other k))
@@ -37,7 +41,8 @@ pub twice_byte : (laws : Premises) (width : Width) (word : Word) (entry : Option
 twice_byte laws width word entry h =
     written_byte laws width (twice_flags width (values_of width word)).0 entry (laws.results.twice_normal width (values_of width word) (values_normal laws width word h))
 
-pub single_byte : (laws : Premises) (done : SingleOperation) (width : Width) (word : Word) (carry : Tri) (entry : Option Entry) → HasWidth done width → IsNormal 65536 word.set
+pub single_byte : (laws : Premises) (done : SingleOperation) (width : Width) (word : Word) (carry : Tri) (entry : Option Entry)
+    → HasWidth done width → IsNormal 65536 word.set
     → size_of width ≡ 1
     → (v : ℕ) → Has 65536 (written_word width (single_made done width (values_of width word) carry).0 entry).set v → v < 256
 single_byte laws done width word carry entry fits h =

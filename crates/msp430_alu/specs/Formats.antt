@@ -146,7 +146,8 @@ store_of true device width other = None
 store_of false device width reach = None
 
 -- by the stages: where the operands stand, what they hold, the result, and what it leaves
-abbrev pub double_behind : Device → (framed : Bool) → (pc len : ℕ) → Operation → Width → Source → Destination → (counted : Form) → (grown_so : Known) → (origin target_so : Reach) → (s d : Word) → (carry : Tri) → Worked
+abbrev pub double_behind : Device → (framed : Bool) → (pc len : ℕ) → Operation → Width → Source → Destination
+    → (counted : Form) → (grown_so : Known) → (origin target_so : Reach) → (s d : Word) → (carry : Tri) → Worked
 double_behind device framed pc len done width origin target counted grown_so from to s d carry =
     let made_so = made_of done width origin target s d carry in
     let word = written_word width made_so.0 (relation_of done (constant_of origin) s.entry d.entry) in
@@ -168,7 +169,8 @@ double_worked device framed a pc len done width origin target =
 -- ONE OPERAND
 
 -- from its place and what it holds; results have no relation
-abbrev pub single_behind : Device → (framed : Bool) → (pc len : ℕ) → SingleOperation → Width → (grown_so : Known) → (from : Reach) → (x : Word) → (carry : Tri) → Worked
+abbrev pub single_behind : Device → (framed : Bool) → (pc len : ℕ) → SingleOperation → Width → (grown_so : Known)
+    → (from : Reach) → (x : Word) → (carry : Tri) → Worked
 single_behind device framed pc len done width grown_so from x carry =
     let made_so = single_made done width (values_of width x) carry in
     let word = written_word width made_so.0 None in
@@ -210,7 +212,8 @@ abbrev pub called_next : SingleOperation → Width → (x : Word) → (behind : 
 called_next Call width x behind = even_parts (written_word width (values_of width x) None).set
 called_next other width x behind = single behind
 
-abbrev pub push_behind : Device → (framed : Bool) → (pc len : ℕ) → SingleOperation → Width → (grown_so : Known) → (from : Reach) → (x : Word) → Worked
+abbrev pub push_behind : Device → (framed : Bool) → (pc len : ℕ) → SingleOperation → Width → (grown_so : Known)
+    → (from : Reach) → (x : Word) → Worked
 push_behind device framed pc len done width grown_so from x =
     let at = lowered_known grown_so in
     record {

@@ -36,7 +36,8 @@ part_of laws {m} {v} set {window} normal has inside =
     (found.0, found.1, laws.sets.cut_holds m window.low window.len v set found.0 normal inside.low found.1 has inside.inside)
 
 -- a member in the window is in what is left
-pub cut_has : (laws : KnownLaws) (width : Width) {v : ℕ} (set : Form) {window : Window} → IsNormal 65536 set → Has 65536 set v → (width ≡ Byte → v < 256)
+pub cut_has : (laws : KnownLaws) (width : Width) {v : ℕ} (set : Form) {window : Window} → IsNormal 65536 set
+    → Has 65536 set v → (width ≡ Byte → v < 256)
     → IsInside (modulus width) v window
     → (part : Form) × (cut_set width set window ≡ Some part) × Has 65536 part v
 cut_has laws Word set normal has small inside = part_of laws set normal has inside
@@ -52,7 +53,8 @@ cut_has laws Byte {v} set {window} normal has small inside =
 
 -- FORM
 
-pub cut_form : (laws : KnownLaws) (width : Width) (set part : Form) (window : Window) → IsNormal 65536 set → window.low < modulus width → cut_set width set window ≡ Some part
+pub cut_form : (laws : KnownLaws) (width : Width) (set part : Form) (window : Window) → IsNormal 65536 set
+    → window.low < modulus width → cut_set width set window ≡ Some part
     → IsNormal 65536 part
 cut_form laws Word set part window normal low e = laws.sets.cut_normal 65536 window.low window.len set part normal low e
 cut_form laws Byte set part window normal low e =

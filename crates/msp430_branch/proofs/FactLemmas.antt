@@ -42,7 +42,8 @@ flags_stay : (width : Width) (x n sr : ℕ) → HasFlagsOf width x n (with_made_
 flags_stay width x n sr =
     subst (λ flags. with_made_flags (with_made_flags sr flags) flags ≡ with_made_flags sr flags) (sym (compared width x n)) (flags_again (compared_flags width x n) sr)
 
-difference_back : (width : Width) (x n : ℕ) → x < modulus width → n < modulus width → ((sum width x (complement width n) 1).0 + n) % modulus width ≡ x
+difference_back : (width : Width) (x n : ℕ) → x < modulus width → n < modulus width
+    → ((sum width x (complement width n) 1).0 + n) % modulus width ≡ x
 unfolding sum
 difference_back Word x n xs ns = omega (arith, xs, ns)
 difference_back Byte x n xs ns = omega (arith, xs, ns)
@@ -57,7 +58,8 @@ flagged registers made_so = set registers 2 (with_made_flags (get_or registers 2
 abbrev pub Compares : Device → Operation → (added : ℕ → ℕ) → Type 0
 Compares device done added =
     (registers ram : List ℕ) (width : Width) (register : Register) (k d carry : ℕ) (left : Left) → IsGeneral register → length registers ≡ 16 → k < modulus width
-    → d ≡ get_or registers (number register) 0 % modulus width → MayLeaveDouble device ram registers done width (InRegister register) k d carry left
+    → d ≡ get_or registers (number register) 0 % modulus width
+    → MayLeaveDouble device ram registers done width (InRegister register) k d carry left
     → HasFlagsOf width ((get_or left.registers (number register) 0 + added k) % modulus width) k (get_or left.registers 2 0)
 
 -- of registers with the flags of a comparison
@@ -106,8 +108,10 @@ sub_compares device registers ram width register k d carry left general long sma
 
 -- FACTS
 
-told_byte : (laws : KnownLaws) {device : Device} {a : Known} {first : Option ChipState} {registers ram : List ℕ} (width : Width) (register : ℕ) → 3 < register → register < 16
-    → is_told width (word_of a register).set ≡ true → HoldsOfParts device a first registers ram → width ≡ Byte → get_or registers register 0 < 256
+told_byte : (laws : KnownLaws) {device : Device} {a : Known} {first : Option ChipState} {registers ram : List ℕ} (width : Width) (register : ℕ)
+    → 3 < register → register < 16
+    → is_told width (word_of a register).set ≡ true → HoldsOfParts device a first registers ram → width ≡ Byte
+    → get_or registers register 0 < 256
 told_byte laws Word register low high told holds byte = absurd (cc)
 told_byte laws {a} {registers} Byte register low high told holds byte =
     laws.cells.byte_any (get_or registers register 0) ((laws.sets.tested 65536 (word_of a register).set _).0 told (get_or registers register 0) (holds.words register low high).0)
@@ -131,17 +135,20 @@ no_free_constant : (width : Width) (n bits x : ℕ) → with_free_bits width (Fi
 no_free_constant Word n bits x = refl
 no_free_constant Byte n bits x = refl
 
-no_free_register : (width : Width) (register : Register) (bits y : ℕ) → is_status (InRegister register) ≡ false → with_free_bits width (InRegister register) bits y ≡ y
+no_free_register : (width : Width) (register : Register) (bits y : ℕ) → is_status (InRegister register) ≡ false
+    → with_free_bits width (InRegister register) bits y ≡ y
 no_free_register Word register bits y none = cond-false (is_status (InRegister register)) (y + 512 * bits) y none
 no_free_register Byte register bits y none = refl
 
 -- with a constant and a register
 register_told : (laws : KnownLaws) {device : Device} {a : Known} {s : ChipState} {first : Option ChipState} (len counted : ℕ) {done : Operation} (added : ℕ → ℕ) {width : Width}
     (n : ℕ) {register : Register} (x y bits : ℕ) {carry : ℕ} {left : Left}
-    → IsChipState device s → Compares device done added → IsGeneral register → x ≡ n % modulus width → y ≡ value_in (set s.registers 0 counted) register % modulus width
+    → IsChipState device s → Compares device done added → IsGeneral register → x ≡ n % modulus width
+    → y ≡ value_in (set s.registers 0 counted) register % modulus width
     → MayLeaveDouble device s.ram (set (set s.registers 0 counted) 0 (behind s len)) done width (InRegister register) (with_free_bits width (Fixed n) bits x)
     (with_free_bits width (InRegister register) bits y) carry left
-    → HoldsOfParts device a first left.registers left.ram → HoldsOfFact (fact_of a width (Some n) (Some (number register)) added) left.registers
+    → HoldsOfParts device a first left.registers left.ram
+    → HoldsOfFact (fact_of a width (Some n) (Some (number register)) added) left.registers
 register_told laws {device} {a} {s} len counted {done} added {width} n {register} x y bits {carry} {left} state compares general reads held leaves holds =
     let r = number register in
     let k = n % modulus width in
@@ -167,7 +174,8 @@ constant_told : (laws : KnownLaws) → ((register : Register) → Kind register)
     → MayStandIf (reads_destination done) device s.ram (set s.registers 0 counted) width (destination_place (register_of s 0) len (set s.registers 0 counted) target) y
     → MayLeaveDouble device s.ram (set (set s.registers 0 counted) 0 (behind s len)) done width (destination_place (register_of s 0) len (set s.registers 0 counted) target)
     (with_free_bits width (Fixed n) bits x) (with_free_bits width (destination_place (register_of s 0) len (set s.registers 0 counted) target) bits y) carry left
-    → HoldsOfParts device a first left.registers left.ram → HoldsOfFact (fact_of a width (Some n) (compared_register target) added) left.registers
+    → HoldsOfParts device a first left.registers left.ram
+    → HoldsOfFact (fact_of a width (Some n) (compared_register target) added) left.registers
 constant_told laws kinds {device} {a} {s} len counted added {width} n (destination.Register register) x y bits {left} state compares both reads held leaves holds =
     let Stands : Bool → Type 0 = λ r. MayStandIf r device s.ram (set s.registers 0 counted) width (InRegister register) y in
     elim (general_or (kinds register)) [
@@ -181,7 +189,8 @@ constant_told laws kinds len counted added n other x y bits state compares both 
 done_told : (laws : KnownLaws) → ((register : Register) → Kind register)
     → {device : Device} {a : Known} {s : ChipState} {first : Option ChipState} {len : ℕ} {done : Operation} (added : ℕ → ℕ) {width : Width} (origin : Source)
     {target : Destination} {outcome : Outcome ChipState}
-    → IsChipState device s → Compares device done added → reads_destination done ≡ true → (may : MayDouble device s len done width origin target outcome)
+    → IsChipState device s → Compares device done added → reads_destination done ≡ true
+    → (may : MayDouble device s len done width origin target outcome)
     → HoldsOfParts device a first may.left.registers may.left.ram
     → HoldsOfFact (fact_of a width (constant_of origin) (compared_register target) added) may.left.registers
 done_told laws kinds {len} added (source.Immediate n) {target} state compares reads may holds =
@@ -193,7 +202,8 @@ done_told laws kinds added other state compares reads may holds = tt
 pub fact_holds : (laws : KnownLaws) → ((register : Register) → Kind register)
     → (device : Device) (a : Known) (s : ChipState) (first : Option ChipState) (len : ℕ) (done : Operation) (width : Width) (origin : Source) (target : Destination)
     (outcome : Outcome ChipState)
-    → IsChipState device s → (may : MayDouble device s len done width origin target outcome) → HoldsOfParts device a first may.left.registers may.left.ram
+    → IsChipState device s → (may : MayDouble device s len done width origin target outcome)
+    → HoldsOfParts device a first may.left.registers may.left.ram
     → HoldsOfFact (fact_behind done width origin target a) may.left.registers
 fact_holds laws kinds device a s first len operation.Cmp width origin target outcome state may holds =
     done_told laws kinds (λ n. 0) origin state (cmp_compares device) refl may holds
@@ -203,7 +213,8 @@ fact_holds laws kinds device a s first len other width origin target outcome sta
 
 -- FORM
 
-fact_of_form : ((register : Register) → Kind register) → (a : Known) (width : Width) (constant : Option ℕ) (target : Destination) (added : ℕ → ℕ)
+fact_of_form : ((register : Register) → Kind register)
+    → (a : Known) (width : Width) (constant : Option ℕ) (target : Destination) (added : ℕ → ℕ)
     → ((n : ℕ) → n < modulus width → added n < modulus width)
     → IsFact (fact_of a width constant (compared_register target) added)
 fact_of_form kinds a width None target added small = tt
@@ -219,7 +230,8 @@ fact_of_form kinds a width (Some n) (destination.Register register) added small 
 ]
 fact_of_form kinds a width (Some n) other added small = tt
 
-pub fact_form : ((register : Register) → Kind register) → (done : Operation) (width : Width) (origin : Source) (target : Destination) (a : Known) → IsFact a.fact
+pub fact_form : ((register : Register) → Kind register)
+    → (done : Operation) (width : Width) (origin : Source) (target : Destination) (a : Known) → IsFact a.fact
     → IsFact (fact_behind done width origin target a)
 fact_form kinds operation.Cmp width origin target a form = fact_of_form kinds a width (constant_of origin) target (λ n. 0) (λ n small. modulus_some width)
 fact_form kinds operation.Sub width origin target a form = fact_of_form kinds a width (constant_of origin) target (λ n. n) (λ n small. small)

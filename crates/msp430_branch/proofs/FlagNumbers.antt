@@ -78,7 +78,8 @@ record Signs (m h x n : ℕ) (negative overflow : Bool) : Type 0 where
   greater : bit_from negative ≡ bit_from overflow → (n + h) % m ≤ (x + h) % m
   less : (bit_from negative ≡ bit_from overflow → ⊥) → (x + h) % m < (n + h) % m
 
-signs_of_words : (x n : ℕ) (a b c : Bool) → x < 65536 → n < 65536 → Side a 32768 x → Side b 32768 (65535 - n) → Side c 32768 ((x + (65535 - n) + 1) % 65536)
+signs_of_words : (x n : ℕ) (a b c : Bool) → x < 65536 → n < 65536 → Side a 32768 x → Side b 32768 (65535 - n)
+    → Side c 32768 ((x + (65535 - n) + 1) % 65536)
     → Signs 65536 32768 x n c (overflows a b c)
 signs_of_words x n true true true xs ns p q r = record { greater = λ e. absurd (omega (arith, e)); less = λ d. omega (arith, xs, ns, p, q, r) }
 signs_of_words x n true true false xs ns p q r = record { greater = λ e. absurd (omega (arith, e)); less = λ d. omega (arith, xs, ns, p, q, r) }
@@ -147,7 +148,8 @@ signs_of Byte x n xs ns =
     signs_of_bytes x n (nat_le 128 x) (nat_le 128 (255 - n)) (nat_le 128 total) xs ns (side_of 128 x (nat_le 128 x) refl)
     (side_of 128 (255 - n) (nat_le 128 (255 - n)) refl) (side_of 128 total (nat_le 128 total) refl)
 
-pub compared_so : (width : Width) (x n sr : ℕ) → x < modulus width → n < modulus width → HasFlagsOf width x n sr → AreCompared (modulus width) (least_signed width) x n sr
+pub compared_so : (width : Width) (x n sr : ℕ) → x < modulus width → n < modulus width → HasFlagsOf width x n sr
+    → AreCompared (modulus width) (least_signed width) x n sr
 compared_so width x n sr xs ns h =
     let flags = compared_held width x n sr h in
     let m = modulus width in

@@ -40,9 +40,11 @@ use Rattle.msp430_branch.proofs.WindowLemmas.{Allows, allows}
 
 -- ONE REGISTER
 
-with_set_holds : {device : Device} {a : Known} {first : Option ChipState} {registers ram : List ℕ} (register : ℕ) (set_so : Form) → length a.registers ≡ 12 → 3 < register
+with_set_holds : {device : Device} {a : Known} {first : Option ChipState} {registers ram : List ℕ} (register : ℕ) (set_so : Form)
+    → length a.registers ≡ 12 → 3 < register
     → register < 16
-    → Has 65536 set_so (get_or registers register 0) → HoldsOfParts device a first registers ram → HoldsOfParts device (with_set a register set_so) first registers ram
+    → Has 65536 set_so (get_or registers register 0) → HoldsOfParts device a first registers ram
+    → HoldsOfParts device (with_set a register set_so) first registers ram
 with_set_holds {a} {first} {registers} register set_so long low high has holds =
     let under = option_map suspended_of first in
     let word : AWord = record { set = set_so; entry = (word_of a register).entry } in
@@ -64,10 +66,12 @@ with_set_holds {a} {first} {registers} register set_so long low high has holds =
       untouched = holds.untouched;
     }
 
-word_form : {lo hi : ℕ} {framed : Bool} {a : Known} (register : ℕ) → IsKnown lo hi framed a → 3 < register → register < 16 → IsWord framed (word_of a register)
+word_form : {lo hi : ℕ} {framed : Bool} {a : Known} (register : ℕ) → IsKnown lo hi framed a → 3 < register
+    → register < 16 → IsWord framed (word_of a register)
 word_form {framed} {a} register form low high = All-get_or (IsWord framed) a.registers (register - 4) (unknown 2) (omega (arith, form.count, low, high)) form.registers
 
-with_set_form : {lo hi : ℕ} {framed : Bool} {a : Known} (register : ℕ) (set_so : Form) → 3 < register → register < 16 → IsNormal 65536 set_so → IsKnown lo hi framed a
+with_set_form : {lo hi : ℕ} {framed : Bool} {a : Known} (register : ℕ) (set_so : Form) → 3 < register → register < 16
+    → IsNormal 65536 set_so → IsKnown lo hi framed a
     → IsKnown lo hi framed (with_set a register set_so)
 with_set_form {framed} {a} register set_so low high normal form =
     let word : AWord = record { set = set_so; entry = (word_of a register).entry } in
@@ -77,18 +81,21 @@ with_set_form {framed} {a} register set_so low high normal form =
 
 -- BITS
 
-with_bits_holds : {device : Device} {a : Known} {first : Option ChipState} {registers ram : List ℕ} (bits : List Tri) → Agrees bits (get_or registers 2 0)
+with_bits_holds : {device : Device} {a : Known} {first : Option ChipState} {registers ram : List ℕ} (bits : List Tri)
+    → Agrees bits (get_or registers 2 0)
     → HoldsOfParts device a first registers ram → HoldsOfParts device (with_bits bits a) first registers ram
 with_bits_holds {a} {first} {registers} bits agrees holds =
     let status : HoldsOfStatus (option_map suspended_of first) (record a.status { bits = bits }) (get_or registers 2 0) = record { bits = agrees; entry = holds.status.entry } in
     assumption (status, holds)
 
-with_bits_form : {lo hi : ℕ} {framed : Bool} {a : Known} (bits : List Tri) → length bits ≡ 9 → IsKnown lo hi framed a → IsKnown lo hi framed (with_bits bits a)
+with_bits_form : {lo hi : ℕ} {framed : Bool} {a : Known} (bits : List Tri) → length bits ≡ 9 → IsKnown lo hi framed a
+    → IsKnown lo hi framed (with_bits bits a)
 with_bits_form bits long form = assumption (long, form)
 
 -- THE REGISTER OF A FACT
 
-allowed : (condition : Condition) (width : Width) (register k n v sr : ℕ) → k < modulus width → n < modulus width → v < 65536 → HasFlagsOf width ((v + k) % modulus width) n sr
+allowed : (condition : Condition) (width : Width) (register k n v sr : ℕ) → k < modulus width → n < modulus width
+    → v < 65536 → HasFlagsOf width ((v + k) % modulus width) n sr
     → (width ≡ Byte → v < 256)
     → Allows (modulus width) v (window_of condition (is_taken condition sr) (record { register = register; added = k; compared = n; width = width }))
 allowed condition width register k n v sr ks ns vs flags small =
@@ -124,7 +131,8 @@ register_cut_holds laws {a} {registers} (Some fact) condition form is told holds
     cut_to_holds laws fact (window_of condition (is_taken condition sr) fact) form low high told.1
     (allowed condition fact.width fact.register fact.added fact.compared v sr ks ns vs told.0 told.1) holds
 
-cut_to_form : (laws : KnownLaws) {lo hi : ℕ} {framed : Bool} {a : Known} (b : Known) (fact : FlagFact) (window : Option Window) → IsKnown lo hi framed a → 3 < fact.register
+cut_to_form : (laws : KnownLaws) {lo hi : ℕ} {framed : Bool} {a : Known} (b : Known) (fact : FlagFact) (window : Option Window)
+    → IsKnown lo hi framed a → 3 < fact.register
     → fact.register < 16
     → IsLow (modulus fact.width) window → cut_to fact window a ≡ Some b → IsKnown lo hi framed b
 cut_to_form laws {lo} {hi} {framed} {a} b fact None form low high begins e = subst (IsKnown lo hi framed) (same_Some a b e) form
@@ -170,7 +178,8 @@ late_of_cut fact (Some window) a b e =
     (λ _ some. let found = mapped (with_set a fact.register) set b some in ap (λ (known : Known). known.late) (sym found.2))
     (λ _ some. ap (λ (known : Known). known.late) (sym (same_Some a b some))) e
 
-late_of_register : (fact : Option FlagFact) (condition : Condition) (taken : Bool) (a b : Known) → register_cut fact condition taken a ≡ Some b → b.late ≡ a.late
+late_of_register : (fact : Option FlagFact) (condition : Condition) (taken : Bool) (a b : Known)
+    → register_cut fact condition taken a ≡ Some b → b.late ≡ a.late
 late_of_register None condition taken a b e = ap (λ (known : Known). known.late) (sym (same_Some a b e))
 late_of_register (Some fact) condition taken a b e = late_of_cut fact (window_of condition taken fact) a b e
 
@@ -189,7 +198,8 @@ outcome_of condition taken a b e =
 
 pub state_cut : (laws : KnownLaws) (device : Device) (lo hi : ℕ) (framed : Bool) (a : Known) (s : ChipState) (first : Option ChipState) (condition : Condition)
     → IsKnown lo hi framed a
-    → HoldsOf device a s first → (b : Known) × (known_cut condition (is_taken condition (get_or s.registers 2 0)) a ≡ Some b) × HoldsOf device b s first
+    → HoldsOf device a s first
+    → (b : Known) × (known_cut condition (is_taken condition (get_or s.registers 2 0)) a ≡ Some b) × HoldsOf device b s first
 state_cut laws device lo hi framed a s first condition form holds =
     let taken = is_taken condition (get_or s.registers 2 0) in
     let (b, is, parts) = cut_holds laws device lo hi framed a first s.registers s.ram condition form holds.parts in
@@ -197,7 +207,8 @@ state_cut laws device lo hi framed a s first condition form holds =
     let late : a.late ≡ b.late = sym (late_of_register a.fact condition taken a c cut_so) ∙ ap (λ (known : Known). known.late) with_so in
     (b, is, record { state = holds.state; suspended = holds.suspended; late = subst (λ t. IsFlag t s.late) late holds.late; parts = parts })
 
-pub cut_in_form : (laws : KnownLaws) (lo hi : ℕ) (framed : Bool) (a b : Known) (condition : Condition) (taken : Bool) → IsKnown lo hi framed a
+pub cut_in_form : (laws : KnownLaws) (lo hi : ℕ) (framed : Bool) (a b : Known) (condition : Condition) (taken : Bool)
+    → IsKnown lo hi framed a
     → known_cut condition taken a ≡ Some b → IsKnown lo hi framed b
 cut_in_form laws lo hi framed a b condition taken form e =
     let (c, cut_so, with_so) = outcome_of condition taken a b e in

@@ -66,7 +66,8 @@ four bits sr agrees = record {
   overflow = subst (IsBit (bit_of bits 8)) (last sr) (bits_at bits 8 sr agrees);
 }
 
-pub taken_may : (condition : Condition) (bits : List Tri) (sr : ℕ) → Agrees bits sr → may_be (taken_by condition bits) (is_taken condition sr) ≡ true
+pub taken_may : (condition : Condition) (bits : List Tri) (sr : ℕ) → Agrees bits sr
+    → may_be (taken_by condition bits) (is_taken condition sr) ≡ true
 taken_may NotEqual bits sr agrees = clear_may (bit_of bits 1) (sr / 2 % 2) (four bits sr agrees).zero_so
 taken_may Equal bits sr agrees = bit_may (bit_of bits 1) (sr / 2 % 2) (four bits sr agrees).zero_so
 taken_may NoCarry bits sr agrees = clear_may (bit_of bits 0) (sr % 2) (four bits sr agrees).carry
@@ -105,7 +106,8 @@ turned x y = elim (cases_eq x y) [
   | inr d ↦ ne_eqb x y d ∙ sym (ne_eqb y x (λ e. d (sym e)))
 ]
 
-less_put : (bits : List Tri) (sr : ℕ) → length bits ≡ 9 → Agrees bits sr → Agrees (with_less bits (known_flag (not (sr / 4 % 2 == sr / 256 % 2)))) sr
+less_put : (bits : List Tri) (sr : ℕ) → length bits ≡ 9 → Agrees bits sr
+    → Agrees (with_less bits (known_flag (not (sr / 4 % 2 == sr / 256 % 2)))) sr
 less_put bits sr long agrees =
     let these = four bits sr agrees in
     let x = sr / 4 % 2 in
@@ -122,7 +124,8 @@ less_put bits sr long agrees =
     bits_put (set bits 2 (known_or n (tri_xor v less))) 8 sr (known_or v (tri_xor n less)) (omega (arith, long, length-set bits 2 (known_or n (tri_xor v less)))) one
     (subst (IsBit (known_or v (tri_xor n less))) (sym (last sr)) overflow)
 
-pub bits_agree : (condition : Condition) (bits : List Tri) (sr : ℕ) → length bits ≡ 9 → Agrees bits sr → Agrees (bits_where condition (is_taken condition sr) bits) sr
+pub bits_agree : (condition : Condition) (bits : List Tri) (sr : ℕ) → length bits ≡ 9 → Agrees bits sr
+    → Agrees (bits_where condition (is_taken condition sr) bits) sr
 bits_agree NotEqual bits sr long agrees = bits_put bits 1 sr (known_flag (not (sr / 2 % 2 == 0))) (omega (arith, long)) agrees
     (subst (IsBit (known_flag (not (sr / 2 % 2 == 0)))) (sym (second sr)) (known_clear (sr / 2 % 2) (omega arith)))
 bits_agree Equal bits sr long agrees =

@@ -39,7 +39,8 @@ Compared width k n v = (k < modulus width) × (n < modulus width) × (v < modulu
 abbrev fact_of : (width : Width) (register k n : ℕ) → FlagFact
 fact_of width register k n = record { register = register; added = k; compared = n; width = width }
 
-in_equal : (width : Width) (register k n v : ℕ) → Compared width k n v → (v + k) % modulus width ≡ n → IsInside (modulus width) v (equal_window (fact_of width register k n))
+in_equal : (width : Width) (register k n v : ℕ) → Compared width k n v → (v + k) % modulus width ≡ n
+    → IsInside (modulus width) v (equal_window (fact_of width register k n))
 in_equal Word register k n v (ks, ns, vs) p = record { low = omega (arith, ks, ns); inside = omega (arith, ks, ns, vs, p) }
 in_equal Byte register k n v (ks, ns, vs) p = record { low = omega (arith, ks, ns); inside = omega (arith, ks, ns, vs, p) }
 
@@ -48,11 +49,13 @@ in_other : (width : Width) (register k n v : ℕ) → Compared width k n v → (
 in_other Word register k n v (ks, ns, vs) p = record { low = omega (arith, ks, ns); inside = omega (arith, ks, ns, vs, p) }
 in_other Byte register k n v (ks, ns, vs) p = record { low = omega (arith, ks, ns); inside = omega (arith, ks, ns, vs, p) }
 
-in_upper : (width : Width) (register k n v : ℕ) → Compared width k n v → n ≤ (v + k) % modulus width → IsInside (modulus width) v (upper_window (fact_of width register k n))
+in_upper : (width : Width) (register k n v : ℕ) → Compared width k n v → n ≤ (v + k) % modulus width
+    → IsInside (modulus width) v (upper_window (fact_of width register k n))
 in_upper Word register k n v (ks, ns, vs) p = record { low = omega (arith, ks, ns); inside = omega (arith, ks, ns, vs, p) }
 in_upper Byte register k n v (ks, ns, vs) p = record { low = omega (arith, ks, ns); inside = omega (arith, ks, ns, vs, p) }
 
-in_lower : (width : Width) (register k n v : ℕ) → Compared width k n v → (v + k) % modulus width < n → IsInside (modulus width) v (lower_window (fact_of width register k n))
+in_lower : (width : Width) (register k n v : ℕ) → Compared width k n v → (v + k) % modulus width < n
+    → IsInside (modulus width) v (lower_window (fact_of width register k n))
 in_lower Word register k n v (ks, ns, vs) p = record { low = omega (arith, ks, ns); inside = omega (arith, ks, ns, vs, p) }
 in_lower Byte register k n v (ks, ns, vs) p = record { low = omega (arith, ks, ns); inside = omega (arith, ks, ns, vs, p) }
 
@@ -62,16 +65,19 @@ in_greater : (width : Width) (register k n v : ℕ) → Compared width k n v
 in_greater Word register k n v (ks, ns, vs) p = record { low = omega (arith, ks, ns); inside = omega (arith, ks, ns, vs, p) }
 in_greater Byte register k n v (ks, ns, vs) p = record { low = omega (arith, ks, ns); inside = omega (arith, ks, ns, vs, p) }
 
-in_less : (width : Width) (register k n v : ℕ) → Compared width k n v → ((v + k) % modulus width + least_signed width) % modulus width < (n + least_signed width) % modulus width
+in_less : (width : Width) (register k n v : ℕ) → Compared width k n v
+    → ((v + k) % modulus width + least_signed width) % modulus width < (n + least_signed width) % modulus width
     → IsInside (modulus width) v (less_window (fact_of width register k n))
 in_less Word register k n v (ks, ns, vs) p = record { low = omega (arith, ks, ns); inside = omega (arith, ks, ns, vs, p) }
 in_less Byte register k n v (ks, ns, vs) p = record { low = omega (arith, ks, ns); inside = omega (arith, ks, ns, vs, p) }
 
 -- a jump's outcome by its test
-either : (m v : ℕ) (taken : Bool) (one other : Window) → (taken ≡ true → IsInside m v one) → (taken ≡ false → IsInside m v other) → IsInside m v (if taken then one else other)
+either : (m v : ℕ) (taken : Bool) (one other : Window) → (taken ≡ true → IsInside m v one)
+    → (taken ≡ false → IsInside m v other) → IsInside m v (if taken then one else other)
 either m v taken one other first second = cond_both taken one other (IsInside m v) first second
 
-pub allows : (condition : Condition) (fact : FlagFact) (v : ℕ) {sr : ℕ} → fact.added < modulus fact.width → fact.compared < modulus fact.width → v < modulus fact.width
+pub allows : (condition : Condition) (fact : FlagFact) (v : ℕ) {sr : ℕ} → fact.added < modulus fact.width
+    → fact.compared < modulus fact.width → v < modulus fact.width
     → AreCompared (modulus fact.width) (least_signed fact.width) ((v + fact.added) % modulus fact.width) fact.compared sr
     → Allows (modulus fact.width) v (window_of condition (is_taken condition sr) fact)
 allows condition fact v {sr} ks ns vs is =

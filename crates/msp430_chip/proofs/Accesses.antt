@@ -9,14 +9,16 @@ use Rattle.msp430_chip.specs.declared.device.Device.{Device}
 use Rattle.msp430_chip.specs.Memory.{aligned, canon, canon_by, size_of, HasRam}
 use Rattle.msp430_chip.specs.State.{even}
 
-canon_even : (lo hi : ℕ) (mirror : Option (ℕ × ℕ)) (at : ℕ) → lo % 2 ≡ 0 → HasMirror lo hi mirror → at % 2 ≡ 0 → canon_by lo mirror at % 2 ≡ 0
+canon_even : (lo hi : ℕ) (mirror : Option (ℕ × ℕ)) (at : ℕ) → lo % 2 ≡ 0 → HasMirror lo hi mirror → at % 2 ≡ 0
+    → canon_by lo mirror at % 2 ≡ 0
 canon_even lo hi None at low is even_so = even_so
 canon_even lo hi (Some (first, last)) at low is even_so =
     cond_both (nat_le first at && nat_le at last) (lo + (at - first)) at (λ n. n % 2 ≡ 0)
     (λ e. let after : first ≤ at = leb-true first at (and_parts (nat_le first at) (nat_le at last) e).0 in omega (arith, low, is.low, even_so, after))
     (λ e. even_so)
 
-canon_small : (lo hi : ℕ) (mirror : Option (ℕ × ℕ)) (at : ℕ) → lo < hi → hi < 65536 → HasMirror lo hi mirror → at < 65536 → canon_by lo mirror at < 65536
+canon_small : (lo hi : ℕ) (mirror : Option (ℕ × ℕ)) (at : ℕ) → lo < hi → hi < 65536 → HasMirror lo hi mirror
+    → at < 65536 → canon_by lo mirror at < 65536
 canon_small lo hi None at some top is small = small
 canon_small lo hi (Some (first, last)) at some top is small =
     cond_both (nat_le first at && nat_le at last) (lo + (at - first)) at (λ n. n < 65536)

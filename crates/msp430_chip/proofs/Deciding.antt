@@ -16,7 +16,8 @@ step_by : (device : Device) (s : ChipState) (choices left : List ℕ) (option : 
 unfolding step_of
 step_by device s choices left option e = ap (continued (taken device s (coming device s))) e
 
-pub instruction_runs : (device : Device) (s : ChipState) (choices left : List ℕ) (found : Result (Instr × ℕ) NoInstr) → interrupt_option device s choices ≡ Some (0, left)
+pub instruction_runs : (device : Device) (s : ChipState) (choices left : List ℕ) (found : Result (Instr × ℕ) NoInstr)
+    → interrupt_option device s choices ≡ Some (0, left)
     → decoded device.image (register_of s 0) ≡ found → step_of device s choices ≡ run device s found left
 instruction_runs device s choices left found e is = step_by device s choices left 0 e ∙ ap (λ f. run device s f left) is
 
@@ -24,7 +25,8 @@ second_of : {A : Type 0} (b : Bool) (f g : Asking A) (choices : List ℕ) → b 
 second_of false f g choices e = refl
 second_of true f g choices e = absurd cc
 
-pub entry_comes : (device : Device) (s : ChipState) (choices left : List ℕ) (option : ℕ) → interrupt_option device s choices ≡ Some (option, left) → 0 < option
+pub entry_comes : (device : Device) (s : ChipState) (choices left : List ℕ) (option : ℕ)
+    → interrupt_option device s choices ≡ Some (option, left) → 0 < option
     → step_of device s choices ≡ enter device s (slice_index (coming device s) (option - 1)) left
 entry_comes device s choices left option e some =
     let other : (option == 0) ≡ false = grind (arith, nat_tests, some) in

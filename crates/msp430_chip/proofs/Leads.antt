@@ -64,7 +64,8 @@ read_leads : (device : Device) (ram : List ℕ) (width : Width) (at : ℕ) → G
 read_leads device ram Word at = word_leads device ram at
 read_leads device ram Byte at = byte_leads device ram (aligned device Byte at)
 
-at_leads : (device : Device) (ram registers : List ℕ) (width : Width) (place : Place) → Gives (MayStandAt device ram registers width place) (value_at device ram registers width place)
+at_leads : (device : Device) (ram registers : List ℕ) (width : Width) (place : Place)
+    → Gives (MayStandAt device ram registers width place) (value_at device ram registers width place)
 at_leads device ram registers width (InRegister register) = answer_gives (MayStandAt device ram registers width (InRegister register)) _ refl
 at_leads device ram registers width (InMemory address) = read_leads device ram width address
 at_leads device ram registers width (Fixed value) = answer_gives (MayStandAt device ram registers width (Fixed value)) _ refl
@@ -78,7 +79,8 @@ target_leads : (device : Device) (ram registers : List ℕ) (operation : Operati
     → Gives (MayStandIf (reads_destination operation) device ram registers width place) (destination_value device ram registers operation width place)
 target_leads device ram registers operation width place = target_by device ram registers (reads_destination operation) width place
 
-counter_leads : (s : ChipState) (len : ℕ) (source : Source) (destination : Destination) → Gives (MayCount s len source destination) (counter s len source destination)
+counter_leads : (s : ChipState) (len : ℕ) (source : Source) (destination : Destination)
+    → Gives (MayCount s len source destination) (counter s len source destination)
 counter_leads s len source destination = if_gives (MayCount s len source destination) (reads_counter source destination) _ (answer (behind s len))
     (λ is. then_gives (λ (option : ℕ). option < 2) (MayCount s len source destination) _ _ (ask_gives 2 (omega arith)) (λ option h.
     answer_gives (MayCount s len source destination) _ (Within is option h refl)))
@@ -95,7 +97,8 @@ decimal_leads width x y carry = if_gives (MayMakeDecimal width x y carry) (is_de
     then_gives (λ (o : ℕ). o < 16) (MayMakeDecimal width x y carry) _ _ (ask_gives 16 (omega arith)) (λ option o.
     answer_gives (MayMakeDecimal width x y carry) _ (NotDecimal are result r (any_flags option) refl))))
 
-result_leads : (operation : Operation) (width : Width) (x y carry : ℕ) → Gives (MayMake operation width x y carry) (result_of operation width x y carry)
+result_leads : (operation : Operation) (width : Width) (x y carry : ℕ)
+    → Gives (MayMake operation width x y carry) (result_of operation width x y carry)
 result_leads Dadd width x y carry = decimal_leads width y x carry
 result_leads other width x y carry = answer_gives (MayMake other width x y carry) _ refl
 
@@ -104,7 +107,8 @@ unfolding rotated
 rotated_leads width x carry = then_gives (λ (o : ℕ). o < 2) (MayMakeSingle Rrc width x carry) _ _ (ask_gives 2 (omega arith)) (λ overflow o.
     answer_gives (MayMakeSingle Rrc width x carry) _ (overflow == 1, refl))
 
-single_result_leads : (operation : SingleOperation) (width : Width) (x carry : ℕ) → Gives (MayMakeSingle operation width x carry) (single_result operation width x carry)
+single_result_leads : (operation : SingleOperation) (width : Width) (x carry : ℕ)
+    → Gives (MayMakeSingle operation width x carry) (single_result operation width x carry)
 single_result_leads Rrc width x carry = rotated_leads width x carry
 single_result_leads other width x carry = answer_gives (MayMakeSingle other width x carry) _ refl
 
@@ -229,31 +233,38 @@ one_operand_leads device s len Push width operand = push_leads device s len Push
 one_operand_leads device s len Call width operand = push_leads device s len Call width operand
 one_operand_leads device s len other width operand = single_leads device s len other width operand
 
-pub executed_leads : (device : Device) (s : ChipState) (instr : Instr) (len : ℕ) → Gives (MayRun device s instr len) (executed device s instr len)
+pub executed_leads : (device : Device) (s : ChipState) (instr : Instr) (len : ℕ)
+    → Gives (MayRun device s instr len) (executed device s instr len)
 executed_leads device s (Double operation width source destination) len = double_leads device s len operation width source destination
 executed_leads device s (OneOperand operation width operand) len = one_operand_leads device s len operation width operand
 executed_leads device s (Jump condition offset) len = answer_gives (MayRun device s (Jump condition offset) len) _ refl
 executed_leads device s ReturnFromInterrupt len = return_leads device s
 
-run_leads : (device : Device) (s : ChipState) (found : Result (Instr × ℕ) NoInstr) → Decodes device.image (register_of s 0) found → Gives (MayLead device s) (run device s found)
+run_leads : (device : Device) (s : ChipState) (found : Result (Instr × ℕ) NoInstr)
+    → Decodes device.image (register_of s 0) found → Gives (MayLead device s) (run device s found)
 run_leads device s (Ok (instr, len)) stands = weaken (MayRun device s instr len) (MayLead device s) _ (λ outcome runs. Runs instr len stands runs) (executed_leads device s instr len)
 run_leads device s (Err none) lacks = answer_gives (MayLead device s) _ (NoneStands none lacks refl)
 
-enter_leads : (device : Device) (s : ChipState) (vector : ℕ) → Contains (coming device s) vector → Gives (MayLead device s) (enter device s vector)
+enter_leads : (device : Device) (s : ChipState) (vector : ℕ) → Contains (coming device s) vector
+    → Gives (MayLead device s) (enter device s vector)
 unfolding enter
 enter_leads device s vector comes = then_gives (λ (b : ℕ). b < 128) (MayLead device s) _ _ (ask_gives 128 (omega arith)) (λ bits few.
     answer_gives (MayLead device s) _ (Enters vector bits comes few refl))
 
-one_of : (vectors : List ℕ) (option : ℕ) → option < 1 + length vectors → (option == 0) ≡ false → Contains vectors (slice_index vectors (option - 1))
+one_of : (vectors : List ℕ) (option : ℕ) → option < 1 + length vectors → (option == 0) ≡ false
+    → Contains vectors (slice_index vectors (option - 1))
 one_of vectors option below some = Contains-get_or vectors (option - 1) 0 (grind (arith, nat_tests, below, some))
 
-taken_by : (device : Device) (s : ChipState) (option : ℕ) (none : Bool) → Decodes device.image (register_of s 0) (decoded device.image (register_of s 0))
+taken_by : (device : Device) (s : ChipState) (option : ℕ) (none : Bool)
+    → Decodes device.image (register_of s 0) (decoded device.image (register_of s 0))
     → (none ≡ false → Contains (coming device s) (slice_index (coming device s) (option - 1)))
     → Gives (MayLead device s) (cond none (run device s (decoded device.image (register_of s 0))) (enter device s (slice_index (coming device s) (option - 1))))
 taken_by device s option true is comes = run_leads device s (decoded device.image (register_of s 0)) is
 taken_by device s option false is comes = enter_leads device s (slice_index (coming device s) (option - 1)) (comes refl)
 
-pub step_leads : (device : Device) (s : ChipState) → Decodes device.image (register_of s 0) (decoded device.image (register_of s 0)) → Gives (MayLead device s) (step_of device s)
+pub step_leads : (device : Device) (s : ChipState)
+    → Decodes device.image (register_of s 0) (decoded device.image (register_of s 0))
+    → Gives (MayLead device s) (step_of device s)
 unfolding step_of
 step_leads device s is =
     let asked = nat_lt 0 (length (coming device s)) in

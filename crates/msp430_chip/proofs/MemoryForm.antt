@@ -27,7 +27,8 @@ outside_gives (Some b) is = answer_gives (λ (b : ℕ). b < 256) b is
 within_ram : (device : Device) (at : ℕ) → is_ram device at ≡ true → at - device.ram.lo < ram_size device
 within_ram device at is = grind (arith, nat_tests)
 
-ram_byte : (device : Device) (ram : List ℕ) (at : ℕ) → IsMemory device ram → is_ram device at ≡ true → slice_index ram (at - device.ram.lo) < 256
+ram_byte : (device : Device) (ram : List ℕ) (at : ℕ) → IsMemory device ram → is_ram device at ≡ true
+    → slice_index ram (at - device.ram.lo) < 256
 ram_byte device ram at is here = let w = within_ram device at here in All-get_or (λ b. b < 256) ram (at - device.ram.lo) _ (omega (arith, is.size, w)) is.bytes
 
 pub read_byte_gives : (device : Device) (ram : List ℕ) (at : ℕ) → IsMemory device ram → Gives (λ (b : ℕ). b < 256) (read_byte device ram at)
@@ -36,14 +37,16 @@ read_byte_gives device ram at is = if_gives (λ (b : ℕ). b < 256) (is_ram devi
     (λ here. answer_gives (λ (b : ℕ). b < 256) _ (ram_byte device ram at is here))
     (λ _. outside_gives (byte_at device.image at) (byte_is device.image at is.image))
 
-pub read_word_gives : (device : Device) (ram : List ℕ) (at : ℕ) → IsMemory device ram → Gives (λ (w : ℕ). w < 65536) (read_word device ram at)
+pub read_word_gives : (device : Device) (ram : List ℕ) (at : ℕ) → IsMemory device ram
+    → Gives (λ (w : ℕ). w < 65536) (read_word device ram at)
 unfolding read_word
 read_word_gives device ram at is =
     then_gives (λ (b : ℕ). b < 256) (λ (w : ℕ). w < 65536) _ _ (read_byte_gives device ram (aligned device Word at) is) (λ low l.
     then_gives (λ (b : ℕ). b < 256) (λ (w : ℕ). w < 65536) _ _ (read_byte_gives device ram (aligned device Word at + 1) is) (λ high h.
     answer_gives (λ (w : ℕ). w < 65536) (low + 256 * high) (omega (arith, l, h))))
 
-pub read_gives : (device : Device) (ram : List ℕ) (width : Width) (at : ℕ) → IsMemory device ram → Gives (λ (x : ℕ). x < modulus width) (read device ram width at)
+pub read_gives : (device : Device) (ram : List ℕ) (width : Width) (at : ℕ) → IsMemory device ram
+    → Gives (λ (x : ℕ). x < modulus width) (read device ram width at)
 read_gives device ram Word at is = read_word_gives device ram at is
 read_gives device ram Byte at is = read_byte_gives device ram (aligned device Byte at) is
 
@@ -54,11 +57,13 @@ set_keeps device ram i byte is below = record {
   bytes = All-set (λ b. b < 256) ram i byte below is.bytes;
 }
 
-chosen_keeps : (device : Device) (b : Bool) (ram other : List ℕ) → IsMemory device ram → IsMemory device other → IsMemory device (cond b ram other)
+chosen_keeps : (device : Device) (b : Bool) (ram other : List ℕ) → IsMemory device ram → IsMemory device other
+    → IsMemory device (cond b ram other)
 chosen_keeps device true ram other is be = is
 chosen_keeps device false ram other is be = be
 
-with_byte_keeps : (device : Device) (ram : List ℕ) (at byte : ℕ) → IsMemory device ram → byte < 256 → IsMemory device (with_byte device ram at byte)
+with_byte_keeps : (device : Device) (ram : List ℕ) (at byte : ℕ) → IsMemory device ram → byte < 256
+    → IsMemory device (with_byte device ram at byte)
 unfolding with_byte
 with_byte_keeps device ram at byte is below =
     chosen_keeps device (is_ram device at) (slice_set ram (at - device.ram.lo) byte) ram (set_keeps device ram (at - device.ram.lo) byte is below) is

@@ -27,10 +27,12 @@ with_register_by registers register value (Status is) are below = rw is (set_sta
 with_register_by registers register value (Empty is) are below = rw is are
 with_register_by registers register value (General is) are below = rw (is.set registers value) (set_other registers (number register) value are (omega (arith, is.above)) below)
 
-pub with_register_keeps : (registers : List ℕ) (register : Register) (value : ℕ) → AreRegisters registers → value < 65536 → AreRegisters (with_register registers register value)
+pub with_register_keeps : (registers : List ℕ) (register : Register) (value : ℕ) → AreRegisters registers
+    → value < 65536 → AreRegisters (with_register registers register value)
 with_register_keeps registers register value = with_register_by registers register value (kind_of register)
 
-pub grown_keeps : (registers : List ℕ) (width : Width) (operand : Source) → AreRegisters registers → AreRegisters (grown registers width operand)
+pub grown_keeps : (registers : List ℕ) (width : Width) (operand : Source) → AreRegisters registers
+    → AreRegisters (grown registers width operand)
 grown_keeps registers width (source.IndirectIncrement register) are = with_register_keeps registers register _ are (omega arith)
 grown_keeps registers width other are = are
 

@@ -57,7 +57,8 @@ decimal_gives width x y carry = either_gives (Fits width) _ _ _
     (then_gives (λ (r : ℕ). r < modulus width) (Fits width) _ _ (ask_gives (modulus width) (modulus_some width)) (λ result r.
     then_gives (λ (o : ℕ). o < 16) (Fits width) _ _ (ask_gives 16 (omega arith)) (λ option o. answer_gives (Fits width) _ r)))
 
-pub result_gives : (operation : Operation) (width : Width) (x y carry : ℕ) → x < modulus width → y < modulus width → Gives (Fits width) (result_of operation width x y carry)
+pub result_gives : (operation : Operation) (width : Width) (x y carry : ℕ) → x < modulus width → y < modulus width
+    → Gives (Fits width) (result_of operation width x y carry)
 result_gives Mov width x y carry h k = answer_gives (Fits width) _ h
 result_gives Add width x y carry h k = answer_gives (Fits width) _ (sum_fits width y x 0)
 result_gives Addc width x y carry h k = answer_gives (Fits width) _ (sum_fits width y x carry)
@@ -79,7 +80,8 @@ rotated_gives : (width : Width) (x carry : ℕ) → x < modulus width → carry 
 unfolding rotated
 rotated_gives width x carry h k = then_gives (λ (o : ℕ). o < 2) (Fits width) _ _ (ask_gives 2 (omega arith)) (λ overflow o. answer_gives (Fits width) _ (shifted_fits width x carry h k))
 
-pub single_gives : (operation : SingleOperation) (width : Width) (operand : Source) (x carry : ℕ) → AreSingle operation width operand → x < modulus width → carry < 2
+pub single_gives : (operation : SingleOperation) (width : Width) (operand : Source) (x carry : ℕ)
+    → AreSingle operation width operand → x < modulus width → carry < 2
     → Gives (Fits width) (single_result operation width x carry)
 single_gives Rrc width operand x carry are h k = rotated_gives width x carry h k
 single_gives Swpb Word operand x carry are h k = answer_gives (Fits Word) _ (omega arith)

@@ -64,11 +64,13 @@ state_is : (device : Device) (registers ram : List ℕ) (late : Bool) → AreReg
     → IsChipState device (record { registers = registers; ram = ram; late = late })
 state_is device registers ram late are is = assumption (are, is)
 
-unless_keeps : (device : Device) (hit : Option ℕ) (items : List Single) (t : ChipState) → IsChipState device t → Keeps device (unless_hit hit items t)
+unless_keeps : (device : Device) (hit : Option ℕ) (items : List Single) (t : ChipState) → IsChipState device t
+    → Keeps device (unless_hit hit items t)
 unless_keeps device None items t is = is
 unless_keeps device (Some at) items t is = tt
 
-done_keeps : (device : Device) (s : ChipState) (instr : Instr) (accesses : List Single) (left : Left) → IsLeft device left → Keeps device (done s instr accesses left)
+done_keeps : (device : Device) (s : ChipState) (instr : Instr) (accesses : List Single) (left : Left)
+    → IsLeft device left → Keeps device (done s instr accesses left)
 done_keeps device s instr accesses left is = unless_keeps device left.hit _ _ (state_is device left.registers left.ram _ is.registers is.ram)
 
 -- ---- operands
@@ -89,7 +91,8 @@ no_free_bits : (width : Width) (place : Place) → is_status place ≡ false →
 no_free_bits Word place is = is
 no_free_bits Byte place is = refl
 
-status_operand : (width : Width) (registers : List ℕ) → AreRegisters registers → IsOperand width (InRegister Sr) (value_in registers Sr % modulus width)
+status_operand : (width : Width) (registers : List ℕ) → AreRegisters registers
+    → IsOperand width (InRegister Sr) (value_in registers Sr % modulus width)
 status_operand Word registers are = let h = are.status in record { below = omega arith; held = λ _. omega arith }
 status_operand Byte registers are = record { below = omega arith; held = λ free. absurd cc }
 
@@ -113,7 +116,8 @@ at_gives device ram registers width (Fixed value) are is =
 nothing_read : (width : Width) (place : Place) → IsOperand width place 0
 nothing_read width place = record { below = modulus_some width; held = λ _. omega arith }
 
-destination_gives : (device : Device) (ram registers : List ℕ) (operation : Operation) (width : Width) (place : Place) → AreRegisters registers → IsMemory device ram
+destination_gives : (device : Device) (ram registers : List ℕ) (operation : Operation) (width : Width) (place : Place)
+    → AreRegisters registers → IsMemory device ram
     → Gives (IsOperand width place) (destination_value device ram registers operation width place)
 destination_gives device ram registers operation width place are is =
     either_gives (IsOperand width place) (reads_destination operation) _ (answer 0) (at_gives device ram registers width place are is) (answer_gives (IsOperand width place) 0 (nothing_read width place))
@@ -122,7 +126,8 @@ freed : (b : Bool) (x bits : ℕ) → x < 65536 → (b ≡ true → x < 512) →
 freed true x bits h held few = let l = held refl in omega arith
 freed false x bits h held few = h
 
-operand_below : (width : Width) (place : Place) (x bits : ℕ) → IsOperand width place x → bits < 128 → with_free_bits width place bits x < modulus width
+operand_below : (width : Width) (place : Place) (x bits : ℕ) → IsOperand width place x → bits < 128
+    → with_free_bits width place bits x < modulus width
 operand_below Word place x bits is few = freed (is_status place) x bits is.below is.held few
 operand_below Byte place x bits is few = is.below
 
@@ -132,14 +137,16 @@ below_word : (width : Width) (x : ℕ) → x < modulus width → x < 65536
 below_word Word x h = h
 below_word Byte x h = omega arith
 
-put_keeps : (device : Device) (registers ram : List ℕ) (width : Width) (place : Place) (value : ℕ) → AreRegisters registers → IsMemory device ram → value < modulus width
+put_keeps : (device : Device) (registers ram : List ℕ) (width : Width) (place : Place) (value : ℕ)
+    → AreRegisters registers → IsMemory device ram → value < modulus width
     → IsLeft device (put device registers ram width place value)
 put_keeps device registers ram width (InRegister register) value are is h =
     record { registers = with_register_keeps registers register value are (below_word width value h); ram = is }
 put_keeps device registers ram width (InMemory address) value are is h = record { registers = are; ram = with_stored_keeps device ram width address value is h }
 put_keeps device registers ram width (Fixed number) value are is h = record { registers = are; ram = is }
 
-put_if_keeps : (b : Bool) (device : Device) (registers ram : List ℕ) (width : Width) (place : Place) (value : ℕ) → AreRegisters registers → IsMemory device ram → value < modulus width
+put_if_keeps : (b : Bool) (device : Device) (registers ram : List ℕ) (width : Width) (place : Place) (value : ℕ)
+    → AreRegisters registers → IsMemory device ram → value < modulus width
     → IsLeft device (put_if b device registers ram width place value)
 put_if_keeps true device registers ram width place value are is h = put_keeps device registers ram width place value are is h
 put_if_keeps false device registers ram width place value are is h = record { registers = are; ram = is }
@@ -187,7 +194,8 @@ wrapped at h = record { below = omega arith; whole = omega arith }
 behind_is : (device : Device) (s : ChipState) (len : ℕ) → IsChipState device s → len % 2 ≡ 0 → IsCounter (behind s len)
 behind_is device s len is h = let p = is.even_pc in wrapped (register_of s 0 + len) (omega arith)
 
-counter_gives : (device : Device) (s : ChipState) (len : ℕ) (origin : Source) (destination : Destination) → IsChipState device s → len % 2 ≡ 0
+counter_gives : (device : Device) (s : ChipState) (len : ℕ) (origin : Source) (destination : Destination)
+    → IsChipState device s → len % 2 ≡ 0
     → Gives IsCounter (counter s len origin destination)
 counter_gives device s len origin destination is h = let p = is.even_pc in
     either_gives IsCounter (reads_counter origin destination) _ (answer _)
@@ -196,7 +204,8 @@ counter_gives device s len origin destination is h = let p = is.even_pc in
     (answer_gives IsCounter _ (behind_is device s len is h))
 
 double_gives : (device : Device) (s : ChipState) (len : ℕ) (operation : Operation) (width : Width) (origin : Source) (destination : Destination)
-    → All IsByte device.image → IsChipState device s → len % 2 ≡ 0 → Gives (Keeps device) (double device s len operation width origin destination)
+    → All IsByte device.image → IsChipState device s → len % 2 ≡ 0
+    → Gives (Keeps device) (double device s len operation width origin destination)
 unfolding double
 double_gives device s len operation width origin destination image is h =
     let are = state_registers device s is in
@@ -220,7 +229,8 @@ double_gives device s len operation width origin destination image is h =
 -- ---- one operand
 
 single_step_gives : (device : Device) (s : ChipState) (len : ℕ) (operation : SingleOperation) (width : Width) (operand : Source)
-    → All IsByte device.image → IsChipState device s → len % 2 ≡ 0 → AreSingle operation width operand → Gives (Keeps device) (single device s len operation width operand)
+    → All IsByte device.image → IsChipState device s → len % 2 ≡ 0 → AreSingle operation width operand
+    → Gives (Keeps device) (single device s len operation width operand)
 unfolding single
 single_step_gives device s len operation width operand image is h form =
     let are = state_registers device s is in
@@ -243,16 +253,19 @@ pushed_gives Word x h = answer_gives (λ (word : ℕ). word < 65536) x h
 pushed_gives Byte x h = then_gives (λ (high : ℕ). high < 256) (λ (word : ℕ). word < 65536) _ _ (ask_gives 256 (omega arith)) (λ high k.
     answer_gives (λ (word : ℕ). word < 65536) (x + 256 * high) (omega (arith, h, k)))
 
-pushed_keeps : (device : Device) (registers ram : List ℕ) (word : ℕ) → AreRegisters registers → IsMemory device ram → word < 65536 → IsLeft device (pushed device registers ram word)
+pushed_keeps : (device : Device) (registers ram : List ℕ) (word : ℕ) → AreRegisters registers → IsMemory device ram
+    → word < 65536 → IsLeft device (pushed device registers ram word)
 pushed_keeps device registers ram word are is h = put_keeps device _ ram Word (InMemory (lowered (slice_index registers 1))) word (set_lowered registers are) is h
 
-plain_push_gives : (device : Device) (ram registers : List ℕ) (width : Width) (x : ℕ) → AreRegisters registers → IsMemory device ram → x < modulus width
+plain_push_gives : (device : Device) (ram registers : List ℕ) (width : Width) (x : ℕ) → AreRegisters registers
+    → IsMemory device ram → x < modulus width
     → Gives (IsLeft device) (and_then (pushed_word width x) (λ word. answer (pushed device registers ram word)))
 plain_push_gives device ram registers width x are is h =
     then_gives (λ (word : ℕ). word < 65536) (IsLeft device) _ _ (pushed_gives width x h) (λ word k. answer_gives (IsLeft device) _ (pushed_keeps device registers ram word are is k))
 
 push_left_gives : (device : Device) (ram registers : List ℕ) (operation : SingleOperation) (width : Width) (x next : ℕ)
-    → AreRegisters registers → IsMemory device ram → x < modulus width → next < 65536 → Gives (IsLeft device) (push_left device ram registers operation width x next)
+    → AreRegisters registers → IsMemory device ram → x < modulus width → next < 65536
+    → Gives (IsLeft device) (push_left device ram registers operation width x next)
 unfolding push_left
 push_left_gives device ram registers Call width x next are is h k = answer_gives (IsLeft device) _
     (pushed_keeps device (slice_set registers 0 (even x)) ram next (set_pc registers (even x) are (even_below x (below_word width x h)) (even_is x)) is k)
@@ -279,14 +292,16 @@ push_gives device s len operation width operand image is h =
     (access_to device (register_of s 0) false width place ++ access_to device (register_of s 0) true Word (InMemory (lowered (slice_index (grown before width operand) 1)))) left kept)))))
 
 one_operand_gives : (device : Device) (s : ChipState) (len : ℕ) (operation : SingleOperation) (width : Width) (operand : Source)
-    → All IsByte device.image → IsChipState device s → len % 2 ≡ 0 → AreSingle operation width operand → Gives (Keeps device) (one_operand device s len operation width operand)
+    → All IsByte device.image → IsChipState device s → len % 2 ≡ 0 → AreSingle operation width operand
+    → Gives (Keeps device) (one_operand device s len operation width operand)
 one_operand_gives device s len Push width operand image is h form = push_gives device s len Push width operand image is h
 one_operand_gives device s len Call width operand image is h form = push_gives device s len Call width operand image is h
 one_operand_gives device s len other width operand image is h form = single_step_gives device s len other width operand image is h form
 
 -- ---- jumps and returns
 
-target_is : (at offset : ℕ) → at % 2 ≡ 0 → (near : Bool) → IsCounter (cond near ((at + 2 + 2 * offset) % 65536) ((at + 2 + 2 * offset + 65536 - 2048) % 65536))
+target_is : (at offset : ℕ) → at % 2 ≡ 0 → (near : Bool)
+    → IsCounter (cond near ((at + 2 + 2 * offset) % 65536) ((at + 2 + 2 * offset + 65536 - 2048) % 65536))
 target_is at offset h true = wrapped (at + 2 + 2 * offset) (omega arith)
 target_is at offset h false = wrapped (at + 2 + 2 * offset + 65536 - 2048) (omega arith)
 
@@ -294,7 +309,8 @@ chosen_counter : (b : Bool) (at other : ℕ) → IsCounter at → IsCounter othe
 chosen_counter true at other is be = is
 chosen_counter false at other is be = be
 
-jump_keeps : (device : Device) (s : ChipState) (condition : Condition) (offset : ℕ) → All IsByte device.image → IsChipState device s → Keeps device (jump s condition offset)
+jump_keeps : (device : Device) (s : ChipState) (condition : Condition) (offset : ℕ) → All IsByte device.image
+    → IsChipState device s → Keeps device (jump s condition offset)
 unfolding jump
 jump_keeps device s condition offset image is =
     let next = chosen_counter (is_taken condition (register_of s 2)) (target_of (register_of s 0) offset) (behind s 2)
@@ -324,7 +340,8 @@ return_gives device s image is =
 pc_below : (device : Device) (s : ChipState) → IsChipState device s → register_of s 0 < 65536
 pc_below device s is = All-get_or (λ r. r < 65536) s.registers 0 _ (omega (arith, is.registers)) is.words
 
-enter_gives : (device : Device) (s : ChipState) (vector : ℕ) → All IsByte device.image → IsChipState device s → Gives (Keeps device) (enter device s vector)
+enter_gives : (device : Device) (s : ChipState) (vector : ℕ) → All IsByte device.image → IsChipState device s
+    → Gives (Keeps device) (enter device s vector)
 unfolding enter
 enter_gives device s vector image is =
     let are = state_registers device s is in
@@ -339,7 +356,8 @@ enter_gives device s vector image is =
     (set_status _ (register_of s 2 / 64 % 2 * 64) (set_sp _ _ (set_pc s.registers (handler_of device vector) are (even_below _ handler) (even_is _)) sunk.below sunk.whole) (omega arith))
     (with_stored_keeps device _ Word _ (register_of s 2 + 512 * bits) pushed_pc (omega (arith, few, q))))))
 
-executed_gives : (device : Device) (s : ChipState) (instr : Instr) (len : ℕ) → All IsByte device.image → IsChipState device s → IsInstr instr → len % 2 ≡ 0
+executed_gives : (device : Device) (s : ChipState) (instr : Instr) (len : ℕ) → All IsByte device.image
+    → IsChipState device s → IsInstr instr → len % 2 ≡ 0
     → Gives (Keeps device) (executed device s instr len)
 executed_gives device s (Double operation width origin destination) len image is form h = double_gives device s len operation width origin destination image is h
 executed_gives device s (OneOperand operation width operand) len image is form h = one_operand_gives device s len operation width operand image is h form.1
@@ -350,22 +368,26 @@ executed_gives device s ReturnFromInterrupt len image is form h = return_gives d
 abbrev pub AreInstrs : Device → Type 0
 AreInstrs device = (pc len : ℕ) (instr : Instr) → decoded device.image pc ≡ Ok (instr, len) → IsInstr instr × (len % 2 ≡ 0)
 
-run_gives : (device : Device) (s : ChipState) (pc : ℕ) (found : Result (Instr × ℕ) NoInstr) → All IsByte device.image → AreInstrs device → IsChipState device s
+run_gives : (device : Device) (s : ChipState) (pc : ℕ) (found : Result (Instr × ℕ) NoInstr) → All IsByte device.image
+    → AreInstrs device → IsChipState device s
     → decoded device.image pc ≡ found → Gives (Keeps device) (run device s found)
 run_gives device s pc (Ok (instr, len)) image instrs is e = let (form, whole) = instrs pc len instr e in executed_gives device s instr len image is form whole
 run_gives device s pc (Err none) image instrs is e = answer_gives (Keeps device) _ tt
 
-taken_gives : (device : Device) (s : ChipState) (vectors : List ℕ) (option : ℕ) → All IsByte device.image → AreInstrs device → IsChipState device s
+taken_gives : (device : Device) (s : ChipState) (vectors : List ℕ) (option : ℕ) → All IsByte device.image
+    → AreInstrs device → IsChipState device s
     → Gives (Keeps device) (taken device s vectors option)
 taken_gives device s vectors option image instrs is = choose_gives (Keeps device) (option == 0) _ _
     (run_gives device s (register_of s 0) (decoded device.image (register_of s 0)) image instrs is refl) (enter_gives device s (slice_index vectors (option - 1)) image is)
 
-step_gives : (device : Device) (s : ChipState) → All IsByte device.image → AreInstrs device → IsChipState device s → Gives (Keeps device) (step_of device s)
+step_gives : (device : Device) (s : ChipState) → All IsByte device.image → AreInstrs device → IsChipState device s
+    → Gives (Keeps device) (step_of device s)
 unfolding step_of
 step_gives device s image instrs is = let vectors = coming device s in
     then_gives (λ (option : ℕ). option < 1 + length vectors) (Keeps device) _ _ (ask_if_gives (nat_lt 0 (length vectors)) (1 + length vectors) (omega arith))
     (λ option o. taken_gives device s vectors option image instrs is)
 
-pub step_keeps : (device : Device) (s t : ChipState) (choices : List ℕ) (items : List Single) → All IsByte device.image → AreInstrs device → IsChipState device s
+pub step_keeps : (device : Device) (s t : ChipState) (choices : List ℕ) (items : List Single) → All IsByte device.image
+    → AreInstrs device → IsChipState device s
     → step_of device s choices ≡ Some (Next items t, []) → IsChipState device t
 step_keeps device s t choices items image instrs is e = (step_gives device s image instrs is).each choices [] (Next items t) e

@@ -54,7 +54,8 @@ enter_asks device s vector = then_asks 1 0 _ _ (ask_asks 128 (omega arith) (omeg
 
 -- ---- operands and results
 
-at_asks : (device : Device) (ram registers : List ℕ) (width : Width) (place : Place) → AsksAtMost 2 (value_at device ram registers width place)
+at_asks : (device : Device) (ram registers : List ℕ) (width : Width) (place : Place)
+    → AsksAtMost 2 (value_at device ram registers width place)
 at_asks device ram registers width (InRegister register) = more_asks 0 2 _ (omega arith) (answer_asks _)
 at_asks device ram registers width (InMemory address) = read_asks device ram width address
 at_asks device ram registers width (Fixed value) = more_asks 0 2 _ (omega arith) (answer_asks _)
@@ -123,7 +124,8 @@ target_asks : (device : Device) (ram registers : List ℕ) (pc len : ℕ) (opera
 target_asks device ram registers pc len operation width (destination.Register register) = if_asks 0 _ _ (answer 0) (answer_asks _) (answer_asks 0)
 target_asks device ram registers pc len operation width other = if_asks 2 _ _ (answer 0) (read_asks device ram width _) (made_asks 0)
 
-counter_asks : (s : ChipState) (len : ℕ) (operand : Source) (target : Destination) → AsksAtMost (counter_questions operand) (counter s len operand target)
+counter_asks : (s : ChipState) (len : ℕ) (operand : Source) (target : Destination)
+    → AsksAtMost (counter_questions operand) (counter s len operand target)
 counter_asks s len (source.Register register) target =
     if_asks 1 _ _ (answer _) (then_asks 1 0 _ _ (ask_asks 2 (omega arith) (omega arith)) (λ (option : ℕ). answer_asks _)) (shown_asks _)
 counter_asks s len other target = answer_asks _
@@ -139,7 +141,8 @@ unasked false false false h k = answer_asks 0
 unasked true reads second h k = absurd cc
 unasked false reads true h k = absurd cc
 
-target_bits_asks : (operation : Operation) (width : Width) (pc len : ℕ) (registers : List ℕ) (origin : Place) (target : Destination) → has_free_bits width origin ≡ false
+target_bits_asks : (operation : Operation) (width : Width) (pc len : ℕ) (registers : List ℕ) (origin : Place) (target : Destination)
+    → has_free_bits width origin ≡ false
     → AsksAtMost (target_bits target) (status_bits operation width origin (destination_place pc len registers target))
 target_bits_asks operation width pc len registers origin (destination.Register register) h = ask_if_asks _ 128 (omega arith) (omega arith)
 target_bits_asks operation width pc len registers origin other h = unasked _ (reads_destination operation) _ h (held_whole width _ refl)

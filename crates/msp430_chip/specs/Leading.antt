@@ -74,7 +74,8 @@ pub data MayMakeDecimal (width : Width) (x y carry : ℕ) (made_so : Made) : Typ
   Decimal : (is_decimal (digits_of width) x && is_decimal (digits_of width) y) ≡ true → (overflow : Bool)
       → made_so ≡ made width (decimal_sum (digits_of width) x y carry) (decimal_carry (digits_of width) x y carry) overflow
       → MayMakeDecimal width x y carry made_so
-  NotDecimal : (is_decimal (digits_of width) x && is_decimal (digits_of width) y) ≡ false → (result : ℕ) → result < modulus width → (flags : Flags)
+  NotDecimal : (is_decimal (digits_of width) x && is_decimal (digits_of width) y) ≡ false → (result : ℕ)
+      → result < modulus width → (flags : Flags)
       → made_so ≡ (result, Some flags) → MayMakeDecimal width x y carry made_so
 
 -- nothing but DADD has a free result or free flags
@@ -84,7 +85,8 @@ MayMake other width s d carry made_so = surely (result_of other width s d carry)
 
 -- RRC leaves V free
 abbrev pub MayMakeSingle : SingleOperation → Width → (x carry : ℕ) → Made → Type 0
-MayMakeSingle Rrc width x carry made_so = (overflow : Bool) × (made_so ≡ made width (shifted_right (top_place width) x carry) (x % 2 == 1) overflow)
+MayMakeSingle Rrc width x carry made_so =
+    (overflow : Bool) × (made_so ≡ made width (shifted_right (top_place width) x carry) (x % 2 == 1) overflow)
 MayMakeSingle other width x carry made_so = surely (single_result other width x carry) ≡ Some made_so
 
 -- an SR that is left free, whole
@@ -96,7 +98,8 @@ pub record LeavesFree (registers ram : List ℕ) (left : Left) : Type 0 where
 -- TWO OPERANDS
 
 pub data MayLeaveDouble (device : Device) (ram registers : List ℕ) (operation : Operation) (width : Width) (place : Place) (x y carry : ℕ) (left : Left) : Type 0 where
-  FreeStatus : (sets_flags operation && is_status place) ≡ true → LeavesFree registers ram left → MayLeaveDouble device ram registers operation width place x y carry left
+  FreeStatus : (sets_flags operation && is_status place) ≡ true → LeavesFree registers ram left
+      → MayLeaveDouble device ram registers operation width place x y carry left
   OfResult : (sets_flags operation && is_status place) ≡ false → (made_so : Made) → MayMake operation width x y carry made_so
       → left ≡ with_status made_so.1 (put_if (writes_result operation) device registers ram width place made_so.0)
       → MayLeaveDouble device ram registers operation width place x y carry left
@@ -133,7 +136,8 @@ pub record MayDouble (device : Device) (s : ChipState) (len : ℕ) (operation : 
 -- ONE OPERAND
 
 pub data MayLeaveSingle (device : Device) (ram registers : List ℕ) (operation : SingleOperation) (width : Width) (place : Place) (x carry : ℕ) (left : Left) : Type 0 where
-  FreeStatus : (single_sets_flags operation && is_status place) ≡ true → LeavesFree registers ram left → MayLeaveSingle device ram registers operation width place x carry left
+  FreeStatus : (single_sets_flags operation && is_status place) ≡ true → LeavesFree registers ram left
+      → MayLeaveSingle device ram registers operation width place x carry left
   OfResult : (single_sets_flags operation && is_status place) ≡ false → (made_so : Made) → MayMakeSingle operation width x carry made_so
       → left ≡ with_status made_so.1 (put device registers ram width place made_so.0)
       → MayLeaveSingle device ram registers operation width place x carry left
@@ -158,7 +162,8 @@ MayPushWord Byte x word = (high : ℕ) × (high < 256) × (word ≡ x + 256 * hi
 
 abbrev pub MayLeavePush : Device → List ℕ → List ℕ → SingleOperation → Width → (x next : ℕ) → Left → Type 0
 MayLeavePush device ram registers Call width x next left = left ≡ pushed device (slice_set registers 0 (even x)) ram next
-MayLeavePush device ram registers other width x next left = (word : ℕ) × MayPushWord width x word × (left ≡ pushed device registers ram word)
+MayLeavePush device ram registers other width x next left =
+    (word : ℕ) × MayPushWord width x word × (left ≡ pushed device registers ram word)
 
 -- the place of the operand, where SP is lowered before it by option 1
 abbrev pub pushed_place : ChipState → (len option : ℕ) → Source → Place
@@ -202,6 +207,9 @@ MayRun device s ReturnFromInterrupt len outcome = MayReturn device s outcome
 
 -- an interrupt that may come is entered, the instruction that stands at PC runs, or none stands there
 pub data MayLead (device : Device) (s : ChipState) (outcome : Outcome ChipState) : Type 0 where
-  Enters : (vector bits : ℕ) → Contains (coming device s) vector → bits < 128 → outcome ≡ entry device s vector bits → MayLead device s outcome
-  Runs : (instr : Instr) (len : ℕ) → Stands device.image (register_of s 0) instr len → MayRun device s instr len outcome → MayLead device s outcome
-  NoneStands : (none : ANoInstr) → Decodes device.image (register_of s 0) (Err none) → outcome ≡ Wild (NoInstr none) → MayLead device s outcome
+  Enters : (vector bits : ℕ) → Contains (coming device s) vector → bits < 128 → outcome ≡ entry device s vector bits
+      → MayLead device s outcome
+  Runs : (instr : Instr) (len : ℕ) → Stands device.image (register_of s 0) instr len → MayRun device s instr len outcome
+      → MayLead device s outcome
+  NoneStands : (none : ANoInstr) → Decodes device.image (register_of s 0) (Err none) → outcome ≡ Wild (NoInstr none)
+      → MayLead device s outcome

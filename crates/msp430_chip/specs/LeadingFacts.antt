@@ -39,19 +39,22 @@ bytes_are device ram bytes at inside = let place = at - device.ram.lo in elim (c
 
 -- of what is read
 
-pub byte_below : (device : Device) (ram : List ℕ) → All IsByte device.image → AreBytes device ram → (at byte : ℕ) → MayReadByte device ram at byte → byte < 256
+pub byte_below : (device : Device) (ram : List ℕ) → All IsByte device.image → AreBytes device ram → (at byte : ℕ)
+    → MayReadByte device ram at byte → byte < 256
 byte_below device ram image bytes at byte (OfRam inside e) = subst (λ b. b < 256) (sym e) (bytes at inside)
 byte_below device ram image bytes at byte (OfProgram outside e) = image_below device.image at byte image e
 byte_below device ram image bytes at byte (OfNeither outside e few) = few
 
-pub read_below : (device : Device) (ram : List ℕ) → All IsByte device.image → AreBytes device ram → (width : Width) (at x : ℕ) → MayRead device ram width at x → x < modulus width
+pub read_below : (device : Device) (ram : List ℕ) → All IsByte device.image → AreBytes device ram
+    → (width : Width) (at x : ℕ) → MayRead device ram width at x → x < modulus width
 read_below device ram image bytes Byte at x reads = byte_below device ram image bytes (aligned device Byte at) x reads
 read_below device ram image bytes Word at x reads =
     let low = byte_below device ram image bytes (aligned device Word at) reads.low reads.reads_low in
     let high = byte_below device ram image bytes (aligned device Word at + 1) reads.high reads.reads_high in
     omega (arith, low, high, reads.word_is)
 
-pub stands_below : (device : Device) (ram registers : List ℕ) → All IsByte device.image → AreBytes device ram → (width : Width) (place : Place) (x : ℕ) → MayStandAt device ram registers width place x → x < modulus width
+pub stands_below : (device : Device) (ram registers : List ℕ) → All IsByte device.image → AreBytes device ram
+    → (width : Width) (place : Place) (x : ℕ) → MayStandAt device ram registers width place x → x < modulus width
 stands_below device ram registers image bytes width (InMemory address) x reads = read_below device ram image bytes width address x reads
 stands_below device ram registers image bytes Word other x e = omega (arith, e)
 stands_below device ram registers image bytes Byte other x e = omega (arith, e)

@@ -15,14 +15,16 @@ pub record AreRegisters (registers : List ℕ) : Type 0 where
   pub nothing : slice_index registers 3 ≡ 0
 
 -- a register has a property that it had, and that the value has if it is put there
-pub kept_at : (P : ℕ → Type 0) (registers : List ℕ) (i value at : ℕ) → at < length registers → (at ≡ i → P value) → P (slice_index registers at)
+pub kept_at : (P : ℕ → Type 0) (registers : List ℕ) (i value at : ℕ) → at < length registers → (at ≡ i → P value)
+    → P (slice_index registers at)
     → P (slice_index (slice_set registers i value) at)
 kept_at P registers i value at inside new old = elim (cases_eq at i) [
   | inl same ↦ subst (λ n. P (slice_index (slice_set registers n value) at)) same (subst P (sym (get_or-set_same registers at value 0 inside)) (new same))
   | inr other ↦ subst P (sym (get_or-set_other registers i at value 0 other)) old
 ]
 
-set_one : (registers : List ℕ) (i value : ℕ) → AreRegisters registers → value < 65536 → (i < 2 → value % 2 ≡ 0) → (i ≡ 2 → value < 512) → (i ≡ 3 → value ≡ 0)
+set_one : (registers : List ℕ) (i value : ℕ) → AreRegisters registers → value < 65536 → (i < 2 → value % 2 ≡ 0)
+    → (i ≡ 2 → value < 512) → (i ≡ 3 → value ≡ 0)
     → AreRegisters (slice_set registers i value)
 set_one registers i value are below even status nothing = record {
   count = length-set registers i value ∙ are.count;
@@ -33,16 +35,20 @@ set_one registers i value are below even status nothing = record {
   nothing = kept_at (λ r. r ≡ 0) registers i value 3 (omega (arith, are.count)) (λ e. nothing (sym e)) are.nothing;
 }
 
-pub set_pc : (registers : List ℕ) (value : ℕ) → AreRegisters registers → value < 65536 → value % 2 ≡ 0 → AreRegisters (slice_set registers 0 value)
+pub set_pc : (registers : List ℕ) (value : ℕ) → AreRegisters registers → value < 65536 → value % 2 ≡ 0
+    → AreRegisters (slice_set registers 0 value)
 set_pc registers value are below is = set_one registers 0 value are below (λ e. is) (λ e. omega (arith, e)) (λ e. omega (arith, e))
 
-pub set_sp : (registers : List ℕ) (value : ℕ) → AreRegisters registers → value < 65536 → value % 2 ≡ 0 → AreRegisters (slice_set registers 1 value)
+pub set_sp : (registers : List ℕ) (value : ℕ) → AreRegisters registers → value < 65536 → value % 2 ≡ 0
+    → AreRegisters (slice_set registers 1 value)
 set_sp registers value are below is = set_one registers 1 value are below (λ e. is) (λ e. omega (arith, e)) (λ e. omega (arith, e))
 
 pub set_status : (registers : List ℕ) (value : ℕ) → AreRegisters registers → value < 512 → AreRegisters (slice_set registers 2 value)
-set_status registers value are below = set_one registers 2 value are (omega arith) (λ e. omega (arith, e)) (λ e. below) (λ e. omega (arith, e))
+set_status registers value are below =
+    set_one registers 2 value are (omega arith) (λ e. omega (arith, e)) (λ e. below) (λ e. omega (arith, e))
 
-pub set_other : (registers : List ℕ) (i value : ℕ) → AreRegisters registers → 4 ≤ i → value < 65536 → AreRegisters (slice_set registers i value)
+pub set_other : (registers : List ℕ) (i value : ℕ) → AreRegisters registers → 4 ≤ i → value < 65536
+    → AreRegisters (slice_set registers i value)
 set_other registers i value are high below =
     set_one registers i value are below (λ e. omega (arith, e, high)) (λ e. omega (arith, e, high)) (λ e. omega (arith, e, high))
 

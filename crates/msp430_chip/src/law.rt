@@ -46,7 +46,8 @@ pub fn steps_keep_form()
 
 /// Seven choices are enough for any step, and each step is taken by choices of 16 bits.
 pub fn steps_are_taken()
-    ensures some { (device : ADevice) (s : AState) (choices : List ℕ) → 7 ≤ length choices → IsSome (step_of device s choices) }
+    ensures some { (device : ADevice) (s : AState) (choices : List ℕ) → 7 ≤ length choices
+        → IsSome (step_of device s choices) }
     ensures small { (device : ADevice) (s : AState) (choices : List ℕ) (outcome : Outcome AState) → Step device s choices outcome →
         (few : List ℕ) × All (λ choice. choice < 65536) few × Step device s few outcome }
 {}
@@ -79,7 +80,8 @@ pub fn the_table_decides()
 /// On a device with RAM the access at an address is made in memory, and that of a word at an even address.
 pub fn accesses_are_in_memory()
     ensures even { (device : ADevice) (at : ℕ) → HasRam device → aligned device Word at % 2 ≡ 0 }
-    ensures fits { (device : ADevice) (width : AWidth) (at : ℕ) → HasRam device → at < 65536 → aligned device width at + size_of width ≤ 65536 }
+    ensures fits { (device : ADevice) (width : AWidth) (at : ℕ) → HasRam device → at < 65536
+        → aligned device width at + size_of width ≤ 65536 }
 {}
 
 /// A register is PC, SP, SR or R3, or it is one of R4 to R15, which are alike.
@@ -90,8 +92,10 @@ pub fn registers_of_five_kinds()
 /// What an instruction of so many bytes leads to, format by format, and what a step leads to, as relations in which no
 /// choices stand (`specs/Leading.antt`).
 pub fn steps_lead()
-    ensures format { (device : ADevice) (s : AState) (instr : AnInstr) (len : ℕ) → Gives (MayRun device s instr len) (executed device s instr len) }
-    ensures step { (device : ADevice) (s : AState) → length device.image ≡ 65536 → All IsByte device.image → Gives (MayLead device s) (step_of device s) }
+    ensures format { (device : ADevice) (s : AState) (instr : AnInstr) (len : ℕ)
+        → Gives (MayRun device s instr len) (executed device s instr len) }
+    ensures step { (device : ADevice) (s : AState) → length device.image ≡ 65536 → All IsByte device.image
+        → Gives (MayLead device s) (step_of device s) }
 {
     decoded_is_the_answer();
 }

@@ -61,7 +61,8 @@ jump_again c offset w h e =
     rw (f.condition_is, f.offset_is) (rw (condition_again c))
 
 -- a first word's format is told by its size
-double_range : (o : Operation) (b : Width) (s : Source) (d : Destination) (w : ℕ) → w ≡ first_word (Double o b s d) → (0x4000 ≤ w) × (w < 65536)
+double_range : (o : Operation) (b : Width) (s : Source) (d : Destination) (w : ℕ) → w ≡ first_word (Double o b s d)
+    → (0x4000 ≤ w) × (w < 65536)
 double_range o b s d w e =
     let h = operation_below o in
     let hs = number_below (source_register s) in

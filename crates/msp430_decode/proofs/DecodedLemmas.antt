@@ -13,7 +13,8 @@ word_there image pc i word there =
     let e : word % 256 + 256 * (word / 256) ≡ word = omega arith in
     rw (there.0, there.1) (rw e refl)
 
-pub word_missing : (image : List (Option ℕ)) (pc i : ℕ) (refusal : NoInstr) → Misses image pc i refusal → word_upward image pc i ≡ Err refusal
+pub word_missing : (image : List (Option ℕ)) (pc i : ℕ) (refusal : NoInstr) → Misses image pc i refusal
+    → word_upward image pc i ≡ Err refusal
 word_missing image pc i (OffImage at) (inl h) = rw (h.0, h.1) refl
 word_missing image pc i (OffImage at) (inr h) = rw (h.2, h.3, h.4) refl
 word_missing image pc i Excluded h = absurd h

@@ -42,7 +42,8 @@ read image pc i size bytes =
     let high : IsByte (upward image pc (suc i)) = All-get_or IsByte image ((pc + suc i) % 65536) None (omega arith) bytes in
     read_low image pc i (upward image pc i) (upward image pc (suc i)) refl low refl high
 
-answered : (image : List (Option ℕ)) (pc : ℕ) (answer : Result (Instr × ℕ) NoInstr) → IsAnswer image pc answer → Decodes image pc (decoded image pc)
+answered : (image : List (Option ℕ)) (pc : ℕ) (answer : Result (Instr × ℕ) NoInstr) → IsAnswer image pc answer
+    → Decodes image pc (decoded image pc)
 answered image pc answer h = rw h.1 h.0
 
 answer_long : (image : List (Option ℕ)) (pc w x : ℕ) → length image ≡ 65536 → All IsByte image → w < 65536 → HasWord image pc 0 w →

@@ -23,7 +23,8 @@ second_of [] = 0
 second_of (x ∷ xs) = first_of xs
 
 -- a source is that of its fields
-pub source_again : (s : Source) (rest : List ℕ) → IsSource s → source_of (source_mode s) (source_register s) (first_of (source_words s ++ rest)) ≡ s
+pub source_again : (s : Source) (rest : List ℕ) → IsSource s
+    → source_of (source_mode s) (source_register s) (first_of (source_words s ++ rest)) ≡ s
 source_again (source.Register R3) rest h = absurd h
 source_again (source.Register register) rest h = refl
 source_again (source.Indexed Pc offset) rest h = absurd h.0

@@ -14,7 +14,8 @@ set_if : (test : Bool) (ram : List ℕ) (place byte : ℕ) → byte < 256 → Al
 set_if true ram place byte below bytes = All-set (λ b. b < 256) ram place byte below bytes
 set_if false ram place byte below bytes = bytes
 
-byte_kept : (device : Device) (ram : List ℕ) (at byte : ℕ) → byte < 256 → All (λ b. b < 256) ram → All (λ b. b < 256) (with_byte device ram at byte)
+byte_kept : (device : Device) (ram : List ℕ) (at byte : ℕ) → byte < 256 → All (λ b. b < 256) ram
+    → All (λ b. b < 256) (with_byte device ram at byte)
 unfolding memory.with_byte
 byte_kept device ram at byte below bytes = set_if (is_ram device at) ram (at - device.ram.lo) byte below bytes
 

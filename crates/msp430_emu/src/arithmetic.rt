@@ -59,7 +59,8 @@ pub(crate) fn single_result(
     requires x { x < arithmetic.modulus width }
     requires carry { carry ≤ 1 }
     ensures exact { asked result choices.new ≡ arithmetic.single_result operation width x carry choices.old }
-    ensures below { (operand : ASource) → AreSingle operation width operand → IfSome result (λ made. made.0 < arithmetic.modulus width) }
+    ensures below { (operand : ASource) → AreSingle operation width operand
+        → IfSome result (λ made. made.0 < arithmetic.modulus width) }
 {
     match operation {
         SingleOperation::Rrc => rotated(width, x, carry, choices),

@@ -73,7 +73,8 @@ fn pushed_word(width: Width, x: u16, choices: &mut Unused) -> Option<u16>
 /// A word pushed below SP.
 #[tactic(auto, using(msp430_chip::specs::Registers::registers_kept))]
 fn pushed(registers: &[u16; 16], word: u16) -> Effect
-    ensures value { (device : Device) (ram : List ℕ) → left_by device ram result ≡ steps.pushed device registers.now ram word }
+    ensures value { (device : Device) (ram : List ℕ)
+        → left_by device ram result ≡ steps.pushed device registers.now ram word }
     ensures form { AreRegisters registers.now → AreRegisters result.registers }
 {
     let mut after = *registers;

@@ -20,7 +20,8 @@ use msp430_decode::Width;
 /// A value written to a place.
 pub(crate) fn put(registers: &[u16; 16], width: Width, place: Place, value: u16) -> Effect
     requires { value < numbers.modulus width }
-    ensures value { (device : Device) (ram : List ℕ) → left_by device ram result ≡ steps.put device registers.now ram width place value }
+    ensures value { (device : Device) (ram : List ℕ)
+        → left_by device ram result ≡ steps.put device registers.now ram width place value }
     ensures form { AreRegisters registers.now → AreRegisters result.registers }
 {
     match place {
@@ -48,7 +49,8 @@ pub(crate) fn put_if(
     value: u16,
 ) -> Effect
     requires { value < numbers.modulus width }
-    ensures value { (device : Device) (ram : List ℕ) → left_by device ram result ≡ steps.put_if is_written device registers.now ram width place value }
+    ensures value { (device : Device) (ram : List ℕ)
+        → left_by device ram result ≡ steps.put_if is_written device registers.now ram width place value }
     ensures form { AreRegisters registers.now → AreRegisters result.registers }
 {
     if is_written {
@@ -64,7 +66,8 @@ pub(crate) fn put_if(
 /// The effect with flags in SR.
 #[tactic(auto, using(msp430_chip::specs::Registers::registers_kept))]
 pub(crate) fn with_status(flags: Option<Flags>, effect: Effect) -> Effect
-    ensures value { (device : Device) (ram : List ℕ) → left_by device ram result ≡ steps.with_status flags (left_by device ram effect) }
+    ensures value { (device : Device) (ram : List ℕ)
+        → left_by device ram result ≡ steps.with_status flags (left_by device ram effect) }
     ensures form { AreRegisters effect.registers → AreRegisters result.registers }
 {
     let mut registers = effect.registers;

@@ -50,7 +50,8 @@ allowed_or : (one other : Bool) → (one || other) ≡ true → (P : Type 0) →
 allowed_or true other e P here there = here refl
 allowed_or false other e P here there = there e
 
-may_interrupt_so : (device : Device) (framed : Bool) (a : Known) (s : ChipState) (first : Option ChipState) → IsUnder device framed a s first
+may_interrupt_so : (device : Device) (framed : Bool) (a : Known) (s : ChipState) (first : Option ChipState)
+    → IsUnder device framed a s first
     → (allows_interrupts s || s.late) ≡ true → may_interrupt a ≡ true
 may_interrupt_so device framed a s first under e =
     let gie = slice_index_or a.status.bits 3 Either in
@@ -71,7 +72,8 @@ coming_is device s vector h = elim (cases_Bool (allows_interrupts s || s.late)) 
 
 -- WHICH COME
 
-comings_listed : (device : Device) (a : Known) → may_interrupt a ≡ true → comings_of device a ≡ flat_map (comings_at a.sp) (vectors_of device)
+comings_listed : (device : Device) (a : Known) → may_interrupt a ≡ true
+    → comings_of device a ≡ flat_map (comings_at a.sp) (vectors_of device)
 unfolding comings_of
 comings_listed device a on = cond-true (may_interrupt a) (flat_map (comings_at a.sp) (vectors_of device)) [] on
 
@@ -100,7 +102,8 @@ comes_at (Values sps) vector s has =
 comes_at (Run p) vector s has = let one : Coming = record { vector = vector; known_sp = None; sp = Run p } in
     record { coming_so = one; vector_is = refl; listed = in_first one []; at = has; came = tt }
 
-pub comes : (device : Device) (framed : Bool) (a : Known) (s : ChipState) (first : Option ChipState) (vector : ℕ) → IsUnder device framed a s first → Contains (coming device s) vector
+pub comes : (device : Device) (framed : Bool) (a : Known) (s : ChipState) (first : Option ChipState) (vector : ℕ)
+    → IsUnder device framed a s first → Contains (coming device s) vector
     → (coming_so : Coming) × (coming_so.vector ≡ vector) × ComesSo device a s coming_so
 comes device framed a s first vector under h =
     let is = coming_is device s vector h in
@@ -122,7 +125,8 @@ record IsOneOf (vector : ℕ) (coming_so : Coming) : Type 0 where
   pub words : AreEvenWords coming_so.sp
   pub entry : IsEntrySp coming_so.known_sp
 
-one_of : (laws : MemoryLaws) (sp : Form) (vector : ℕ) (coming_so : Coming) → AreEvenWords sp → Contains (comings_at sp vector) coming_so → IsOneOf vector coming_so
+one_of : (laws : MemoryLaws) (sp : Form) (vector : ℕ) (coming_so : Coming) → AreEvenWords sp
+    → Contains (comings_at sp vector) coming_so → IsOneOf vector coming_so
 one_of laws (Values sps) vector coming_so words h =
     let made : ℕ → Coming = λ sp. record { vector = vector; known_sp = Some sp; sp = single sp } in
     let found = from_map made sps coming_so h in
@@ -146,7 +150,9 @@ pub record IsListed (device : Device) (coming_so : Coming) : Type 0 where
   pub words : AreEvenWords coming_so.sp
   pub entry : IsEntrySp coming_so.known_sp
 
-pub is_listed : (laws : MemoryLaws) (device : Device) (framed : Bool) (a : Known) (coming_so : Coming) → IsKnown device.ram.lo device.ram.hi framed a → Contains (comings_of device a) coming_so → IsListed device coming_so
+pub is_listed : (laws : MemoryLaws) (device : Device) (framed : Bool) (a : Known) (coming_so : Coming)
+    → IsKnown device.ram.lo device.ram.hi framed a → Contains (comings_of device a) coming_so
+    → IsListed device coming_so
 is_listed laws device framed a coming_so form h = elim (cases_Bool (may_interrupt a)) [
   | inr off ↦ absurd (in_none coming_so (subst (λ list. Contains list coming_so) (none_listed device a off) h))
   | inl on ↦
@@ -161,7 +167,8 @@ is_listed laws device framed a coming_so form h = elim (cases_Bool (may_interrup
       }
 ]
 
-pub frame_so : (laws : MemoryLaws) (device : Device) (framed : Bool) (a : Known) (coming_so : Coming) → IsKnown device.ram.lo device.ram.hi framed a → Contains (comings_of device a) coming_so
+pub frame_so : (laws : MemoryLaws) (device : Device) (framed : Bool) (a : Known) (coming_so : Coming)
+    → IsKnown device.ram.lo device.ram.hi framed a → Contains (comings_of device a) coming_so
     → IsFrame (frame_of_coming coming_so) × (may_come device coming_so.vector ≡ true)
 frame_so laws device framed a coming_so form h = let is = is_listed laws device framed a coming_so form h in ((is.below, is.entry, refl), is.may)
 
@@ -192,7 +199,8 @@ byte_small device is at byte e = elim (cases_lt at (length device.image)) [
   | inl inside ↦ subst IsByte e (All-get_or IsByte device.image at None inside is.bytes)
 ]
 
-word_small : (low high : Option ℕ) → ((byte : ℕ) → low ≡ Some byte → byte < 256) → ((byte : ℕ) → high ≡ Some byte → byte < 256) → word_from low high < 65536
+word_small : (low high : Option ℕ) → ((byte : ℕ) → low ≡ Some byte → byte < 256)
+    → ((byte : ℕ) → high ≡ Some byte → byte < 256) → word_from low high < 65536
 word_small None high h k = omega arith
 word_small (Some low) None h k = omega arith
 word_small (Some low) (Some high) h k = let one = h low refl in let other = k high refl in omega (arith, one, other)

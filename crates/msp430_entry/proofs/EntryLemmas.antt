@@ -41,7 +41,8 @@ use Rattle.plain_lemmas.specs.Members.{in_one}
 
 -- THE SLOTS
 
-pub slot_words : (laws : MemoryLaws) (sp : Form) (offset : ℕ) → AreEvenWords sp → offset < 65536 → offset % 2 ≡ 0 → AreEvenWords (add 65536 sp (single offset))
+pub slot_words : (laws : MemoryLaws) (sp : Form) (offset : ℕ) → AreEvenWords sp → offset < 65536 → offset % 2 ≡ 0
+    → AreEvenWords (add 65536 sp (single offset))
 slot_words laws sp offset words small no_bit =
     let one = (laws.known.sets.single 65536 offset small).0 in
     record {
@@ -49,7 +50,8 @@ slot_words laws sp offset words small no_bit =
       even = laws.known.sets.add_rest 65536 2 0 0 sp (single offset) refl words.normal one words.even (λ v has. subst (λ n. n % 2 ≡ 0) (in_one offset v has) no_bit);
     }
 
-pub slot_has : (laws : MemoryLaws) (sp : Form) (offset v : ℕ) → AreEvenWords sp → offset < 65536 → Has 65536 sp v → Has 65536 (add 65536 sp (single offset)) ((v + offset) % 65536)
+pub slot_has : (laws : MemoryLaws) (sp : Form) (offset v : ℕ) → AreEvenWords sp → offset < 65536 → Has 65536 sp v
+    → Has 65536 (add 65536 sp (single offset)) ((v + offset) % 65536)
 slot_has laws sp offset v words small has =
     let one = laws.known.sets.single 65536 offset small in
     laws.known.sets.add 65536 v offset sp (single offset) words.normal one.0 has one.1
@@ -67,7 +69,8 @@ bit_6 (a ∷ b ∷ c ∷ d ∷ e ∷ f ∷ []) v agrees = omega arith
 bit_6 (a ∷ b ∷ c ∷ d ∷ e ∷ f ∷ g ∷ bits) v agrees =
     let same : v / 2 / 2 / 2 / 2 / 2 / 2 % 2 ≡ v / 64 % 2 = omega arith in subst (IsBit g) same agrees.1.1.1.1.1.1.0
 
-entered_bits : (bit : Tri) (t : ℕ) → t < 2 → IsBit bit t → Agrees (Zero ∷ Zero ∷ Zero ∷ Zero ∷ Zero ∷ Zero ∷ bit ∷ Zero ∷ Zero ∷ []) (t * 64)
+entered_bits : (bit : Tri) (t : ℕ) → t < 2 → IsBit bit t
+    → Agrees (Zero ∷ Zero ∷ Zero ∷ Zero ∷ Zero ∷ Zero ∷ bit ∷ Zero ∷ Zero ∷ []) (t * 64)
 entered_bits bit zero small is = (refl, (refl, (refl, (refl, (refl, (refl, (is, (refl, (refl, refl)))))))))
 entered_bits bit (suc zero) small is = (refl, (refl, (refl, (refl, (refl, (refl, (is, (refl, (refl, refl)))))))))
 entered_bits bit (suc (suc t)) small is = absurd (omega (arith, small))
@@ -100,7 +103,8 @@ record AreEntered (registers left : List ℕ) (handler sp sr : ℕ) : Type 0 whe
   pub status : get_or left 2 0 ≡ sr
   pub others : (register : ℕ) → 3 < register → get_or left register 0 ≡ get_or registers register 0
 
-are_entered : (registers : List ℕ) (handler sp sr : ℕ) → length registers ≡ 16 → AreEntered registers (set (set (set registers 0 handler) 1 sp) 2 sr) handler sp sr
+are_entered : (registers : List ℕ) (handler sp sr : ℕ) → length registers ≡ 16
+    → AreEntered registers (set (set (set registers 0 handler) 1 sp) 2 sr) handler sp sr
 are_entered registers handler sp sr long =
     let one = set registers 0 handler in
     let two = set one 1 sp in
@@ -127,22 +131,26 @@ stored_known device a pc sp = with_store device true (counted_known device a pc 
 counter_word_form : (laws : MemoryLaws) (pc : ℕ) → pc < 65536 → IsWord true (record { set = single pc; entry = Some (itself 0) })
 counter_word_form laws pc small = record { normal = (laws.known.sets.single 65536 pc small).0; entry = (refl, omega arith, omega arith) }
 
-status_word_form : (laws : MemoryLaws) (status : Status) → length status.bits ≡ 9 → IsWord true (record { set = status_set status; entry = Some (itself 2) })
+status_word_form : (laws : MemoryLaws) (status : Status) → length status.bits ≡ 9
+    → IsWord true (record { set = status_set status; entry = Some (itself 2) })
 status_word_form laws status long = laws.words.status_form true (record { bits = status.bits; entry = Some (itself 2) }) long (refl, omega arith, refl, omega arith)
 
-counted_form : (laws : MemoryLaws) (device : Device) (framed : Bool) (a : Known) (pc : ℕ) (sp : Form) → IsDevice device → IsKnown device.ram.lo device.ram.hi framed a → pc < 65536 → AreEvenWords sp
+counted_form : (laws : MemoryLaws) (device : Device) (framed : Bool) (a : Known) (pc : ℕ) (sp : Form) → IsDevice device
+    → IsKnown device.ram.lo device.ram.hi framed a → pc < 65536 → AreEvenWords sp
     → IsKnown device.ram.lo device.ram.hi true (counted_known device a pc sp)
 counted_form laws device framed a pc sp is form small words =
     laws.words.stored_form device true (handed a) (counted_sp sp) (record { set = single pc; entry = Some (itself 0) }) is (handed_form laws device.ram.lo device.ram.hi framed a form)
     (slot_words laws sp 65534 words (omega arith) refl).normal (counter_word_form laws pc small)
 
-stored_form : (laws : MemoryLaws) (device : Device) (framed : Bool) (a : Known) (pc : ℕ) (sp : Form) → IsDevice device → IsKnown device.ram.lo device.ram.hi framed a → pc < 65536 → AreEvenWords sp
+stored_form : (laws : MemoryLaws) (device : Device) (framed : Bool) (a : Known) (pc : ℕ) (sp : Form) → IsDevice device
+    → IsKnown device.ram.lo device.ram.hi framed a → pc < 65536 → AreEvenWords sp
     → IsKnown device.ram.lo device.ram.hi true (stored_known device a pc sp)
 stored_form laws device framed a pc sp is form small words =
     laws.words.stored_form device true (counted_known device a pc sp) (entered_sp sp) (record { set = status_set a.status; entry = Some (itself 2) }) is
     (counted_form laws device framed a pc sp is form small words) (slot_words laws sp 65532 words (omega arith) refl).normal (status_word_form laws a.status form.bits)
 
-pub entered_form : (laws : MemoryLaws) (device : Device) (framed : Bool) (a : Known) (pc : ℕ) (coming_so : Coming) → IsDevice device → IsKnown device.ram.lo device.ram.hi framed a → IsEvenWord pc
+pub entered_form : (laws : MemoryLaws) (device : Device) (framed : Bool) (a : Known) (pc : ℕ) (coming_so : Coming)
+    → IsDevice device → IsKnown device.ram.lo device.ram.hi framed a → IsEvenWord pc
     → Contains (comings_of device a) coming_so → IsKnown device.ram.lo device.ram.hi true (entered_known device a pc coming_so.sp)
 unfolding entered_known
 entered_form laws device framed a pc coming_so is form word listed =
@@ -161,8 +169,10 @@ abbrev pushed_ram : Device → ChipState → (bits : ℕ) → List ℕ
 pushed_ram device s bits = let sp = register_of s 1 in
     with_stored device (with_stored device s.ram Words ((sp + 65534) % 65536) (register_of s 0)) Words ((sp + 65532) % 65536) (register_of s 2 + 512 * bits)
 
-stored_parts : (laws : MemoryLaws) (device : Device) (framed : Bool) (a : Known) (s : ChipState) (first : Option ChipState) (sp : Form) (bits : ℕ) → IsUnder device framed a s first → AreEvenWords sp
-    → Has 65536 sp (register_of s 1) → bits < 128 → HoldsOfParts device (stored_known device a (register_of s 0) sp) (Some s) s.registers (pushed_ram device s bits)
+stored_parts : (laws : MemoryLaws) (device : Device) (framed : Bool) (a : Known) (s : ChipState) (first : Option ChipState) (sp : Form) (bits : ℕ)
+    → IsUnder device framed a s first → AreEvenWords sp
+    → Has 65536 sp (register_of s 1) → bits < 128
+    → HoldsOfParts device (stored_known device a (register_of s 0) sp) (Some s) s.registers (pushed_ram device s bits)
 stored_parts laws device framed a s first sp bits under words has few =
     let is = under.device_so in
     let form = under.form in
@@ -188,7 +198,8 @@ stored_parts laws device framed a s first sp bits under words has few =
 abbrev left_state : Device → ChipState → (vector bits : ℕ) → ChipState
 left_state device s vector bits = record { registers = entered device s vector; ram = pushed_ram device s bits; late = false }
 
-entered_parts : (laws : MemoryLaws) (device : Device) (framed : Bool) (a : Known) (s : ChipState) (first : Option ChipState) (sp : Form) (vector bits : ℕ) → IsUnder device framed a s first
+entered_parts : (laws : MemoryLaws) (device : Device) (framed : Bool) (a : Known) (s : ChipState) (first : Option ChipState) (sp : Form) (vector bits : ℕ)
+    → IsUnder device framed a s first
     → AreEvenWords sp → Has 65536 sp (register_of s 1) → bits < 128
     → HoldsOfParts device (entered_known device a (register_of s 0) sp) (Some s) (entered device s vector) (pushed_ram device s bits)
 unfolding entered_known
@@ -212,13 +223,15 @@ left_by : (hit : Option ℕ) (these items : List Single) (one t : ChipState) →
 left_by None these items one t e = cc
 left_by (Some at) these items one t e = absurd (cc)
 
-entry_leaves : (device : Device) (s t : ChipState) (vector bits : ℕ) (items : List Single) → entry device s vector bits ≡ Next items t → left_state device s vector bits ≡ t
+entry_leaves : (device : Device) (s t : ChipState) (vector bits : ℕ) (items : List Single)
+    → entry device s vector bits ≡ Next items t → left_state device s vector bits ≡ t
 entry_leaves device s t vector bits items e = left_by
     (first_hit (program_hit device Words ((register_of s 1 + 65534) % 65536)) (program_hit device Words ((register_of s 1 + 65532) % 65536)))
     _ items (left_state device s vector bits) t e
 
 pub covered : (laws : MemoryLaws) (device : Device) (framed : Bool) (a : Known) (s t : ChipState) (first : Option ChipState) (coming_so : Coming) (bits : ℕ) (items : List Single)
-    → IsUnder device framed a s first → ComesSo device a s coming_so → bits < 128 → entry device s coming_so.vector bits ≡ Next items t → IsChipState device t
+    → IsUnder device framed a s first → ComesSo device a s coming_so → bits < 128
+    → entry device s coming_so.vector bits ≡ Next items t → IsChipState device t
     → Covers device (At (handler_of device coming_so.vector) [] (frame_of_coming coming_so)) (entered_known device a (register_of s 0) coming_so.sp) t (Some s)
 unfolding entered_known
 covered laws device framed a s t first coming_so bits items under so few e state =

@@ -25,7 +25,8 @@ use Rattle.msp430_alu.specs.Laws.{MemoryLaws}
 -- RELATIONS TO ITSELF
 
 -- a place's own number came from it, where the other bits that it doesn't hold may be any
-pub from_itself : (s : ChipState) (place v : ℕ) → v ≡ register_of s place → v < 65536 → IsFromEntry (Some (suspended_of s)) (Some (itself place)) v
+pub from_itself : (s : ChipState) (place v : ℕ) → v ≡ register_of s place → v < 65536
+    → IsFromEntry (Some (suspended_of s)) (Some (itself place)) v
 from_itself s place v is small =
     let masked : bit_and v 65535 ≡ v = and_mask v 16 ∙ omega (arith, small) in
     let whole : bit_or (bit_and v 65535) 0 ≡ v = or_zero_r (bit_and v 65535) ∙ masked in
@@ -54,7 +55,8 @@ handed_word a register count low high =
 
 -- PARTS
 
-pub handed_parts : (laws : MemoryLaws) (device : Device) (framed : Bool) (a : Known) (s : ChipState) (first : Option ChipState) → IsUnder device framed a s first
+pub handed_parts : (laws : MemoryLaws) (device : Device) (framed : Bool) (a : Known) (s : ChipState) (first : Option ChipState)
+    → IsUnder device framed a s first
     → HoldsOfParts device (handed a) (Some s) s.registers s.ram
 handed_parts laws device framed a s first under =
     let parts = under.holds.parts in
@@ -73,7 +75,9 @@ handed_parts laws device framed a s first under =
 
 -- FORM
 
-each_kept : (laws : MemoryLaws) (framed : Bool) (cells : List Cell) → ((c : Cell) → Contains cells c → IsChipCell framed c) → (c : Cell) → Contains (kept unrelated cells) c → IsChipCell true c
+each_kept : (laws : MemoryLaws) (framed : Bool) (cells : List Cell)
+    → ((c : Cell) → Contains cells c → IsChipCell framed c) → (c : Cell) → Contains (kept unrelated cells) c
+    → IsChipCell true c
 each_kept laws framed cells forms c there =
     let (held, among, is) = laws.known.frames.plain_each cells c there in
     let form = forms held among in

@@ -35,12 +35,14 @@ shown_by : (items : List Item) (item : Item) (one : Single) → Contains items i
 shown_by items item one there shows = (item, there, shows)
 
 -- a push is at one of the addresses of its slot
-slot_located : (laws : MemoryLaws) (device : Device) (sp : Form) (offset v : ℕ) → HasRam device → AreEvenWords sp → offset < 65536 → offset % 2 ≡ 0 → Has 65536 sp v
+slot_located : (laws : MemoryLaws) (device : Device) (sp : Form) (offset v : ℕ) → HasRam device → AreEvenWords sp
+    → offset < 65536 → offset % 2 ≡ 0 → Has 65536 sp v
     → Has 65536 (located device Words (add 65536 sp (single offset))) (aligned device Words ((v + offset) % 65536))
 slot_located laws device sp offset v is words small no_bit has =
     laws.words.located device (add 65536 sp (single offset)) ((v + offset) % 65536) is (slot_words laws sp offset words small no_bit).normal (slot_has laws sp offset v words small has)
 
-pub shown : (laws : MemoryLaws) (device : Device) (framed : Bool) (a : Known) (s : ChipState) (first : Option ChipState) (coming_so : Coming) → IsUnder device framed a s first → ComesSo device a s coming_so
+pub shown : (laws : MemoryLaws) (device : Device) (framed : Bool) (a : Known) (s : ChipState) (first : Option ChipState) (coming_so : Coming)
+    → IsUnder device framed a s first → ComesSo device a s coming_so
     → AreShown (entry_items device (register_of s 0) coming_so) (entry_shows device s coming_so.vector)
 shown laws device framed a s first coming_so under so one there =
     let pc = register_of s 0 in
@@ -72,7 +74,8 @@ shown laws device framed a s first coming_so under so one there =
 
 -- STORES
 
-slot_hit : (laws : MemoryLaws) (device : Device) (s : ChipState) (sp : Form) (offset at : ℕ) → HasRam device → AreEvenWords sp → offset < 65536 → offset % 2 ≡ 0
+slot_hit : (laws : MemoryLaws) (device : Device) (s : ChipState) (sp : Form) (offset at : ℕ) → HasRam device
+    → AreEvenWords sp → offset < 65536 → offset % 2 ≡ 0
     → Has 65536 sp (register_of s 1) → program_hit device Words ((register_of s 1 + offset) % 65536) ≡ Some at
     → IsHit device Words (Some (located device Words (add 65536 sp (single offset)))) at
 slot_hit laws device s sp offset at is words small no_bit has hits =
@@ -82,7 +85,8 @@ one_hit : (one other : Option ℕ) (at : ℕ) → first_hit one other ≡ Some a
 one_hit None other at e = inr e
 one_hit (Some first) other at e = inl e
 
-pub hit : (laws : MemoryLaws) (device : Device) (framed : Bool) (a : Known) (s : ChipState) (first : Option ChipState) (coming_so : Coming) (at : ℕ) → IsUnder device framed a s first → ComesSo device a s coming_so
+pub hit : (laws : MemoryLaws) (device : Device) (framed : Bool) (a : Known) (s : ChipState) (first : Option ChipState) (coming_so : Coming) (at : ℕ)
+    → IsUnder device framed a s first → ComesSo device a s coming_so
     → first_hit (program_hit device Words ((register_of s 1 + 65534) % 65536)) (program_hit device Words ((register_of s 1 + 65532) % 65536)) ≡ Some at
     → IsHit device Words (Some (counter_slot device coming_so.sp)) at ⊎ IsHit device Words (Some (status_slot device coming_so.sp)) at
 hit laws device framed a s first coming_so at under so hits =

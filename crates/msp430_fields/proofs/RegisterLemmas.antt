@@ -42,7 +42,8 @@ fronts_go_on at s names values text rest behind i value inside room so_far is =
     ∙ ap (λ front. onto front (each_in_front at s (drop (i + 1) names) behind)) (sym (take_more_set values i value room))
 
 -- no value
-pub fronts_bad : {A : Type 0} (at : ℕ) (s : Spelling A) (names : List (List ℕ)) (values : List A) (text rest : List ℕ) (i : ℕ) → i < length names
+pub fronts_bad : {A : Type 0} (at : ℕ) (s : Spelling A) (names : List (List ℕ)) (values : List A) (text rest : List ℕ) (i : ℕ)
+    → i < length names
     → each_in_front at s names text ≡ onto (take i values) (each_in_front at s (drop i names) rest)
     → None ≡ in_front at (named s (get_or names i [])) rest → None ≡ each_in_front at s names text
 fronts_bad at s names values text rest i inside so_far is =
@@ -51,7 +52,8 @@ fronts_bad at s names values text rest i inside so_far is =
     ∙ ap (λ first. onto (take i values) (first_of at s (drop (i + 1) names) first)) (sym is))
 
 -- all of them
-pub fronts_end : {A : Type 0} (at : ℕ) (s : Spelling A) (names : List (List ℕ)) (values : List A) (text rest : List ℕ) (i : ℕ) → length names ≤ i
+pub fronts_end : {A : Type 0} (at : ℕ) (s : Spelling A) (names : List (List ℕ)) (values : List A) (text rest : List ℕ) (i : ℕ)
+    → length names ≤ i
     → length values ≤ i → each_in_front at s names text ≡ onto (take i values) (each_in_front at s (drop i names) rest)
     → Some (values, rest) ≡ each_in_front at s names text
 fronts_end at s names values text rest i past most so_far =
@@ -73,7 +75,8 @@ texts_go_on at text names values i other before with_value after all inside room
     ∙ append_assoc (before ++ one) (at ∷ []) left ∙ append_assoc before one (at ∷ left)
     ∙ ap₂ (λ ns vs. before ++ named_texts at text ns vs) (sym (drop_more names i [] inside)) (sym (drop_more values i other room)) ∙ so_far
 
-pub texts_end : {A : Type 0} (at : ℕ) (text : A → List ℕ) (names : List (List ℕ)) (values : List A) (i : ℕ) (out all : List ℕ) → length names ≤ i
+pub texts_end : {A : Type 0} (at : ℕ) (text : A → List ℕ) (names : List (List ℕ)) (values : List A) (i : ℕ) (out all : List ℕ)
+    → length names ≤ i
     → out ++ named_texts at text (drop i names) (drop i values) ≡ all → out ≡ all
 texts_end at text names values i out all past so_far =
     sym (append-nil out) ∙ ap (λ ns. out ++ named_texts at text ns (drop i values)) (sym (drop_all i names past)) ∙ so_far

@@ -119,7 +119,8 @@ fact_is_exact =
     (λ has. true≢false (sym has ∙ some_avoids 45 refl refl refl refl refl refl fact form))) some_is_exact)
     fact_narrow fact_wide
 
-fact_avoids : (at : ℕ) → is_digit at ≡ false → (43 == at) ≡ false → (46 == at) ≡ false → (58 == at) ≡ false → has_byte at (codes "-") ≡ false
+fact_avoids : (at : ℕ) → is_digit at ≡ false → (43 == at) ≡ false → (46 == at) ≡ false → (58 == at) ≡ false
+    → has_byte at (codes "-") ≡ false
     → none_has at (map (λ row. row.1) register_rows) ≡ true → none_has at (codes "w" ∷ codes "b" ∷ []) ≡ true → Avoids fact_field at
 fact_avoids at no_digit no_plus no_dot no_colon no_dash no_register no_width =
     restated_avoids (or_mark some_fact (codes "-")) IsFact at fact_narrow

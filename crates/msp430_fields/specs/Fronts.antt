@@ -40,7 +40,8 @@ state_of front memory = record {
 
 -- LAWS
 
-pub fields_read : (framed : Bool) (lo hi : ℕ) → IsReadAs (parts_field framed lo hi).value (fields_in_front framed) (memory_field framed lo hi).value with_front
+pub fields_read : (framed : Bool) (lo hi : ℕ)
+    → IsReadAs (parts_field framed lo hi).value (fields_in_front framed) (memory_field framed lo hi).value with_front
 fields_read framed lo hi =
     then_read (one_read sp_named (status_on framed lo hi))
     (then_read (one_read (status_named framed) (late_on framed lo hi))

@@ -60,7 +60,8 @@ registers_find (row ∷ rows) (n ∷ new) (h ∷ held) many more =
 grouped : (a b c d e f g : Bool) → ((a && (b && c)) && (d && (e && (f && g)))) ≡ (a && b && c && d && e && f && g)
 grouped a b c d e f g = simp and_assoc
 
-outside_finds : (new held : Known) → length new.registers ≡ 12 → length held.registers ≡ 12 → FindsNone (outside_of new held) (known_within new held)
+outside_finds : (new held : Known) → length new.registers ≡ 12 → length held.registers ≡ 12
+    → FindsNone (outside_of new held) (known_within new held)
 unfolding outside_of known_within
 outside_finds new held many more =
     subst (FindsNone (outside_of new held)) (grouped (is_within 65536 new.sp held.sp) (status_within new.status held.status)

@@ -51,7 +51,8 @@ status_tailed = with_tail 64 (bits_field 9) (relation_field 4 place_field)
 
 -- the bits 8 to 0 of SR, and perhaps a relation
 abbrev pub status_field : (framed : Bool) → Spelling Status
-status_field framed = restated (told_by (bits_related 4 place_field (bits_field 9) (is_own_in framed)) status_of status_parts) (IsStatusIn framed)
+status_field framed =
+    restated (told_by (bits_related 4 place_field (bits_field 9) (is_own_in framed)) status_of status_parts) (IsStatusIn framed)
 
 abbrev pub register_value : (framed : Bool) → Spelling Word
 register_value framed = restated (word_field 4 place_field framed) (IsWord framed)
@@ -154,7 +155,8 @@ related_only : (framed : Bool) (cells : List Cell) → AreRelated 4 IsPlace fram
 related_only framed [] related = tt
 related_only framed (cell ∷ cells) related = (test_only framed cell related.0 related.1, related_only framed cells related.2)
 
-cells_narrow : (framed : Bool) (lo hi : ℕ) (cells : List Cell) → AreChipCells framed lo hi cells → AreCellsIn 4 IsPlace framed is_chip_cell lo hi cells
+cells_narrow : (framed : Bool) (lo hi : ℕ) (cells : List Cell) → AreChipCells framed lo hi cells
+    → AreCellsIn 4 IsPlace framed is_chip_cell lo hi cells
 cells_narrow framed lo hi cells form =
     (form.0, related_back framed lo hi cells (each_cell lo hi lo cells form.0) (each_from (IsChipCell framed) cells form.1))
 

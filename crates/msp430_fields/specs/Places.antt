@@ -73,7 +73,8 @@ register_wide n is =
     let parts = and_parts (nat_lt 3 n) (nat_lt n 16) (named_passes is_register register_rows n refl is) in (ltb-true 3 n parts.0, ltb-true n 16 parts.1)
 
 pub register_is_exact : IsExact register_field
-register_is_exact = restated_is_exact (one_named register_rows) IsRegister (one_named_is_exact register_rows refl) register_narrow register_wide
+register_is_exact =
+    restated_is_exact (one_named register_rows) IsRegister (one_named_is_exact register_rows refl) register_narrow register_wide
 
 pub register_avoids : (at : ℕ) → none_has at (map (λ row. row.1) register_rows) ≡ true → Avoids register_field at
 register_avoids at none = restated_avoids (one_named register_rows) IsRegister at register_narrow (one_named_avoids register_rows at none)

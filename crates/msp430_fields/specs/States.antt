@@ -138,7 +138,8 @@ known_narrow framed lo hi a form = (
   made_again lo hi a form.from form.up_to,
 )
 
-known_wide : (framed : Bool) (lo hi : ℕ) (a : Known) → (told_by (parts_field framed lo hi) (known_of lo hi) parts_of).Form a → IsKnown lo hi framed a
+known_wide : (framed : Bool) (lo hi : ℕ) (a : Known)
+    → (told_by (parts_field framed lo hi) (known_of lo hi) parts_of).Form a → IsKnown lo hi framed a
 known_wide framed lo hi a form =
     let late = form.0.1.1 in
     let memory = late.1.2.1 in

@@ -12,10 +12,12 @@ ghost use Rattle.msp430_fields.specs.States.{known_text, state_in};
 /// Each state in form is read again from its text, which is in one line, and nothing else is read. The nodes in form have a
 /// text. No field of a state is outside exactly where it is within.
 pub fn states_have_texts()
-    ensures again { (lo hi : ℕ) (node : ANode) (a : Known) → hi < 65536 → HasChipForm lo hi node a → state_in lo hi node (known_text a) ≡ Some a }
+    ensures again { (lo hi : ℕ) (node : ANode) (a : Known) → hi < 65536 → HasChipForm lo hi node a
+        → state_in lo hi node (known_text a) ≡ Some a }
     ensures takes { (lo hi : ℕ) (node : ANode) (text : List ℕ) (a : Known) → hi < 65536 → state_in lo hi node text ≡ Some a
         → HasChipForm lo hi node a × (known_text a ≡ text) }
-    ensures one_line { (lo hi : ℕ) (node : ANode) (a : Known) → hi < 65536 → HasChipForm lo hi node a → IsOneLine (known_text a) }
+    ensures one_line { (lo hi : ℕ) (node : ANode) (a : Known) → hi < 65536 → HasChipForm lo hi node a
+        → IsOneLine (known_text a) }
     ensures nodes { (lo hi : ℕ) (node : ANode) (a : Known) → HasChipForm lo hi node a → IsNodeText 4 node }
     ensures included { (lo hi : ℕ) (framed : Bool) (new held : Known) → IsKnown lo hi framed new → IsKnown lo hi framed held
         → (outside_of new held ≡ None) ↔ (known_within new held ≡ true) }

@@ -78,7 +78,8 @@ pub record IsFormed (device : Device) (framed : Bool) (made_so : Worked) : Type 
   pub next : (to : ℕ) → Has 65536 made_so.next to → IsEvenWord to
 
 -- the next addresses are even words
-next_even : Laws → (ahead : ℕ) (next : Form) → ahead % 2 ≡ 0 → IsNormal 65536 next → (ahead % 2 ≡ 0 → HasRemainder 65536 2 0 next) → (to : ℕ) → Has 65536 next to → IsEvenWord to
+next_even : Laws → (ahead : ℕ) (next : Form) → ahead % 2 ≡ 0 → IsNormal 65536 next
+    → (ahead % 2 ≡ 0 → HasRemainder 65536 2 0 next) → (to : ℕ) → Has 65536 next to → IsEvenWord to
 next_even laws ahead next even normal rest to has = (laws.known.sets.below 65536 to next normal has, rest even to has)
 
 behind_even : (pc words : ℕ) → IsEvenWord pc → IsEvenWord ((pc + (2 + 2 * words)) % 65536)
@@ -90,7 +91,8 @@ target_even pc offset h = let even = h.1 in
     (λ e. (omega arith, omega arith)) (λ e. (omega arith, omega arith))
 
 module _ (laws : Laws) (device : Device) (framed : Bool) (a : Known) (pc : ℕ) (is : IsDevice device) (form : IsKnown device.ram.lo device.ram.hi framed a) (even : IsEvenWord pc) where
-  status_form : (operation : Operation) (width : Width) (origin : Source) (target : Destination) → IsSource origin → target ≡ destination.Register Sr
+  status_form : (operation : Operation) (width : Width) (origin : Source) (target : Destination) → IsSource origin
+      → target ≡ destination.Register Sr
       → IsFormed device framed (worked device framed a pc (instr.Double operation width origin target))
   status_form operation width origin target fits status =
       let i = instr.Double operation width origin (destination.Register Sr) in
@@ -101,7 +103,8 @@ module _ (laws : Laws) (device : Device) (framed : Bool) (a : Known) (pc : ℕ) 
             (laws.statuses.next device framed a pc len operation width origin) (laws.statuses.even device framed a pc len operation width origin);
       })
 
-  double_form : (operation : Operation) (width : Width) (origin : Source) (target : Destination) → IsInstr (instr.Double operation width origin target) → TargetView target
+  double_form : (operation : Operation) (width : Width) (origin : Source) (target : Destination)
+      → IsInstr (instr.Double operation width origin target) → TargetView target
       → IsFormed device framed (worked device framed a pc (instr.Double operation width origin target))
   double_form operation width origin target fits (other_target leaves_so same) =
       let i = instr.Double operation width origin target in
@@ -114,7 +117,8 @@ module _ (laws : Laws) (device : Device) (framed : Bool) (a : Known) (pc : ℕ) 
       })
   double_form operation width origin target fits (status_target status) = status_form operation width origin target fits.0 status
 
-  single_status_form : (operation : SingleOperation) (width : Width) → IsFormed device framed (single_status_worked device framed a pc (length_of (instr.Single operation width (source.Register Sr))) operation width)
+  single_status_form : (operation : SingleOperation) (width : Width)
+      → IsFormed device framed (single_status_worked device framed a pc (length_of (instr.Single operation width (source.Register Sr))) operation width)
   single_status_form operation width =
       let i = instr.Single operation width (source.Register Sr) in
       let len = length_of i in
@@ -124,7 +128,8 @@ module _ (laws : Laws) (device : Device) (framed : Bool) (a : Known) (pc : ℕ) 
             (laws.single_statuses.next device framed a pc len operation width) (laws.single_statuses.even device framed a pc len operation width);
       }
 
-  single_form : (operation : SingleOperation) (width : Width) (operand : Source) → IsInstr (instr.Single operation width operand) → OperandView operand
+  single_form : (operation : SingleOperation) (width : Width) (operand : Source)
+      → IsInstr (instr.Single operation width operand) → OperandView operand
       → IsFormed device framed (single_or_status device framed a pc (length_of (instr.Single operation width operand)) operation width operand)
   single_form operation width operand fits (other_operand leaves_so same) =
       let i = instr.Single operation width operand in
@@ -186,10 +191,13 @@ joined_late : (late : Tri) (a b : Known) → a.late ≡ late → b.late ≡ late
 unfolding known_joined
 joined_late late a b f g = ap (λ bit. common_bit bit b.late) f ∙ ap (λ bit. common_bit late bit) g ∙ common_itself late
 
-pub joined_ahead : Laws → (device : Device) (framed : Bool) (late : Tri) (a b : Known) → IsAhead device framed late a → IsAhead device framed late b → IsAhead device framed late (known_joined a b)
+pub joined_ahead : Laws → (device : Device) (framed : Bool) (late : Tri) (a b : Known) → IsAhead device framed late a
+    → IsAhead device framed late b → IsAhead device framed late (known_joined a b)
 joined_ahead laws device framed late a b f g = (laws.states.join_form device.ram.lo device.ram.hi framed a b f.0 g.0, joined_late late a b f.1 g.1)
 
-cut_ahead : Laws → (device : Device) (framed : Bool) (condition : Condition) (taken : Bool) (a : Known) (found : Option Known) → IsKnown device.ram.lo device.ram.hi framed a
+cut_ahead : Laws
+    → (device : Device) (framed : Bool) (condition : Condition) (taken : Bool) (a : Known) (found : Option Known)
+    → IsKnown device.ram.lo device.ram.hi framed a
     → known_cut condition taken a ≡ found → IfSome found (IsAhead device framed a.late)
 cut_ahead laws device framed condition taken a None known e = tt
 cut_ahead laws device framed condition taken a (Some b) known e =
@@ -248,12 +256,15 @@ gie_bit (a ∷ b ∷ c ∷ One ∷ bits) v agrees = let is : v / 2 / 2 / 2 % 2 �
 gie_bit (a ∷ b ∷ c ∷ Either ∷ bits) v agrees = tt
 
 -- what is known of GIE holds of it
-gie_holds : (device : Device) (a : Known) (s : ChipState) (first : Option ChipState) → HoldsOf device a s first → IsFlag (gie_of a) (allows_interrupts s)
+gie_holds : (device : Device) (a : Known) (s : ChipState) (first : Option ChipState) → HoldsOf device a s first
+    → IsFlag (gie_of a) (allows_interrupts s)
 gie_holds device a s first holds = gie_bit a.status.bits (register_of s 2) holds.parts.status.bits
 
 -- the state behind an instruction stands under what is known there
-behind_holds : (device : Device) (a b : Known) (s : ChipState) (first : Option ChipState) (left : Left) → HoldsOf device a s first → b.late ≡ gie_of a
-    → HoldsOfParts device b first left.registers left.ram → IsChipState device (state_behind s left) → HoldsOf device b (state_behind s left) first
+behind_holds : (device : Device) (a b : Known) (s : ChipState) (first : Option ChipState) (left : Left)
+    → HoldsOf device a s first → b.late ≡ gie_of a
+    → HoldsOfParts device b first left.registers left.ram → IsChipState device (state_behind s left)
+    → HoldsOf device b (state_behind s left) first
 behind_holds device a b s first left holds is parts form = record {
   state = form;
   suspended = holds.suspended;
@@ -263,7 +274,8 @@ behind_holds device a b s first left holds is parts form = record {
 
 -- WHERE AN INSTRUCTION LANDS
 
-parts_of : (items_so others : List Single) (t u : ChipState) → ◌≡◌ {A = Outcome ChipState} (Onward items_so t) (Onward others u) → (items_so ≡ others) × (t ≡ u)
+parts_of : (items_so others : List Single) (t u : ChipState)
+    → ◌≡◌ {A = Outcome ChipState} (Onward items_so t) (Onward others u) → (items_so ≡ others) × (t ≡ u)
 parts_of items_so others t u e = (cc, cc)
 
 -- what a step of an instruction comes to at a location
@@ -282,7 +294,8 @@ module _ (laws : Laws) (setting : Setting) (calls : List ℕ) (frame : Frame) (a
   abbrev LandsAt : List Single → ChipState → Type 0
   LandsAt = Lands (msp430_machine setting.device) (msp430_analysis setting) (Covers setting.device) (At (register_of s 0) calls frame) work_so s first
 
-  arrives : (outcome : Outcome ChipState) (run : IsRun setting.device (is_interrupt frame) a s first instr_so outcome) → IsChipState setting.device (state_behind s run.left)
+  arrives : (outcome : Outcome ChipState) (run : IsRun setting.device (is_interrupt frame) a s first instr_so outcome)
+      → IsChipState setting.device (state_behind s run.left)
       → Arrives (msp430_machine setting.device) (msp430_analysis setting) (Covers setting.device) known_joined (msp430_flow setting) (site_of (msp430_flow setting) (register_of s 0) calls frame instr_so)
       (onward_of setting frame a (register_of s 0) instr_so (worked setting.device (is_interrupt frame) a (register_of s 0) instr_so)) first (state_behind s run.left)
   unfolding msp430_machine
@@ -304,7 +317,8 @@ module _ (laws : Laws) (setting : Setting) (calls : List ℕ) (frame : Frame) (a
       (ways_onward pc instr_so made_so.next (known_behind device framed a pc instr_so)) ahead way.way way.listed in
       on_way way.way way.listed way.goes (way.goes, behind_holds device a way.way.1 s first run.left holds formed.known.1 way.holds form, at.in_frame))
 
-  pub run_lands : (items_so : List Single) (t : ChipState) (run : IsRun setting.device (is_interrupt frame) a s first instr_so (Onward items_so t)) → IsChipState setting.device t
+  pub run_lands : (items_so : List Single) (t : ChipState) (run : IsRun setting.device (is_interrupt frame) a s first instr_so (Onward items_so t))
+      → IsChipState setting.device t
       → work_so.opens ≡ [] → (hit : Option ℕ) → run.left.hit ≡ hit → LandsAt items_so t
   unfolding msp430_machine
   run_lands items_so t run form none (Some byte) e = let outcome = run.outcome_is ∙ done_by_hit s instr_so run.accesses run.left (Some byte) e in absurd (cc)
@@ -321,10 +335,13 @@ module _ (laws : Laws) (setting : Setting) (calls : List ℕ) (frame : Frame) (a
 
 -- WHERE AN INTERRUPT LANDS
 
-pub entry_lands : Laws → (setting : Setting) (calls : List ℕ) (frame : Frame) (a : Known) (s : ChipState) (first : Option ChipState) (found : Option Instr) (items_so : List Single) (t : ChipState)
-    → IsUnder setting.device (is_interrupt frame) a s first → IsChipState setting.device t → (coming_so : Coming) (bits : ℕ) → ComesSo setting.device a s coming_so → bits < 128
+pub entry_lands : Laws
+    → (setting : Setting) (calls : List ℕ) (frame : Frame) (a : Known) (s : ChipState) (first : Option ChipState) (found : Option Instr) (items_so : List Single) (t : ChipState)
+    → IsUnder setting.device (is_interrupt frame) a s first → IsChipState setting.device t
+    → (coming_so : Coming) (bits : ℕ) → ComesSo setting.device a s coming_so → bits < 128
     → (is : ◌≡◌ {A = Outcome ChipState} (Onward items_so t) (entry setting.device s coming_so.vector bits))
-    → (hit : Option ℕ) → first_hit (program_hit setting.device Word ((register_of s 1 + 65534) % 65536)) (program_hit setting.device Word ((register_of s 1 + 65532) % 65536)) ≡ hit
+    → (hit : Option ℕ)
+    → first_hit (program_hit setting.device Word ((register_of s 1 + 65534) % 65536)) (program_hit setting.device Word ((register_of s 1 + 65532) % 65536)) ≡ hit
     → Lands (msp430_machine setting.device) (msp430_analysis setting) (Covers setting.device) (At (register_of s 0) calls frame)
     (work_at known_joined (msp430_flow setting) (register_of s 0) calls frame a found) s first items_so t
 entry_lands laws setting calls frame a s first found items_so t under form coming_so bits so below is (Some at) e =

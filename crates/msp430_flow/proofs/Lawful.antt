@@ -51,7 +51,8 @@ use Rattle.msp430_flow.proofs.Stepping.Comes.{entered, ran, refused}
 known_of : (lo hi : ℕ) (node : Node) (a : Known) → HasChipForm lo hi node a → IsKnown lo hi (is_interrupt (frame_of node)) a
 known_of lo hi node a form = form.1
 
-form_with : (lo hi : ℕ) (node : Node) (a b : Known) → HasChipForm lo hi node a → IsKnown lo hi (is_interrupt (frame_of node)) b → HasChipForm lo hi node b
+form_with : (lo hi : ℕ) (node : Node) (a b : Known) → HasChipForm lo hi node a
+    → IsKnown lo hi (is_interrupt (frame_of node)) b → HasChipForm lo hi node b
 form_with lo hi node a b form known = (form.0, known)
 
 exit_entered : (lo hi : ℕ) (exit : Node) (x : Known) → (IsLocation exit → ⊥) → HasChipForm lo hi exit x → HasEntry (frame_of exit)
@@ -77,8 +78,10 @@ reset_even device program = even_start (byte_at device.image 65534) (byte_at dev
 
 -- STEPS
 
-under : (device : Device) → IsProgram device → (pc : ℕ) (calls : List ℕ) (frame : Frame) (a : Known) (s : ChipState) (first : Option ChipState)
-    → HasChipForm device.ram.lo device.ram.hi (At pc calls frame) a → Covers device (At pc calls frame) a s first → IsUnder device (is_interrupt frame) a s first
+under : (device : Device) → IsProgram device
+    → (pc : ℕ) (calls : List ℕ) (frame : Frame) (a : Known) (s : ChipState) (first : Option ChipState)
+    → HasChipForm device.ram.lo device.ram.hi (At pc calls frame) a → Covers device (At pc calls frame) a s first
+    → IsUnder device (is_interrupt frame) a s first
 under device program pc calls frame a s first form covers = record {
   device_so = device_of device program;
   base = in_base device frame s first covers.2;
@@ -86,8 +89,10 @@ under device program pc calls frame a s first form covers = record {
   holds = covers.1;
 }
 
-wild_told : Laws → (setting : Setting) → IsSetting setting → (node : Node) (a : Known) (s : ChipState) (first : Option ChipState) (why : Leaving) → IsLocation node
-    → HasChipForm setting.device.ram.lo setting.device.ram.hi node a → Covers setting.device node a s first → StepsTo setting.device s (Wild why)
+wild_told : Laws → (setting : Setting) → IsSetting setting
+    → (node : Node) (a : Known) (s : ChipState) (first : Option ChipState) (why : Leaving) → IsLocation node
+    → HasChipForm setting.device.ram.lo setting.device.ram.hi node a → Covers setting.device node a s first
+    → StepsTo setting.device s (Wild why)
     → IsTold (work_of known_joined (msp430_flow setting) (One node) a None) why
 wild_told laws setting so (At pc calls frame) a s first why location form covers (choices, cause, left, step, is) =
     let device = setting.device in
@@ -97,8 +102,10 @@ wild_told laws setting so (At pc calls frame) a s first why location form covers
     (told laws setting calls frame a s first cause stands (comes laws device so.program (is_interrupt frame) a s first (Leaves cause) stands choices left step)))
 wild_told laws setting so (Exit pc frame) a s first why location form covers step = absurd location
 
-lands_by : Laws → (setting : Setting) → IsSetting setting → (calls : List ℕ) (frame : Frame) (a : Known) (s : ChipState) (first : Option ChipState) (items_so : List Single) (t : ChipState)
-    → IsUnder setting.device (is_interrupt frame) a s first → StandsIn frame first → IsEvenWord (register_of s 0) → IsChipState setting.device t
+lands_by : Laws → (setting : Setting) → IsSetting setting
+    → (calls : List ℕ) (frame : Frame) (a : Known) (s : ChipState) (first : Option ChipState) (items_so : List Single) (t : ChipState)
+    → IsUnder setting.device (is_interrupt frame) a s first → StandsIn frame first → IsEvenWord (register_of s 0)
+    → IsChipState setting.device t
     → Comes setting.device (is_interrupt frame) a s first (Onward items_so t)
     → (work_at known_joined (msp430_flow setting) (register_of s 0) calls frame a (fetched setting.device.image (register_of s 0))).opens ≡ []
     → Lands (msp430_machine setting.device) (msp430_analysis setting) (Covers setting.device) (At (register_of s 0) calls frame)
@@ -115,8 +122,11 @@ lands_by laws setting so calls frame a s first items_so t stands in_frame even f
     (run_lands laws setting calls frame a s first instr_so at items_so t run form (sym (ap (λ r. (work r).opens) found) ∙ none) run.left.hit refl)
 lands_by laws setting so calls frame a s first items_so t stands in_frame even form (refused refusal found is) none = absurd (cc)
 
-lands : Laws → (setting : Setting) → IsSetting setting → (node : Node) (a : Known) (s : ChipState) (first : Option ChipState) (items_so : List Single) (t : ChipState) → IsLocation node
-    → HasChipForm setting.device.ram.lo setting.device.ram.hi node a → Covers setting.device node a s first → StepsTo setting.device s (Next items_so t)
+lands : Laws → (setting : Setting) → IsSetting setting
+    → (node : Node) (a : Known) (s : ChipState) (first : Option ChipState) (items_so : List Single) (t : ChipState)
+    → IsLocation node
+    → HasChipForm setting.device.ram.lo setting.device.ram.hi node a → Covers setting.device node a s first
+    → StepsTo setting.device s (Next items_so t)
     → (work_of known_joined (msp430_flow setting) (One node) a None).opens ≡ []
     → Lands (msp430_machine setting.device) (msp430_analysis setting) (Covers setting.device) node (work_of known_joined (msp430_flow setting) (One node) a None) s first items_so t
 lands laws setting so (At pc calls frame) a s first items_so t location form covers (choices, left, step) none =
@@ -132,7 +142,8 @@ lands laws setting so (Exit pc frame) a s first items_so t location form covers 
 
 -- RETURNS
 
-returns_hold : Laws → (setting : Setting) → IsSetting setting → ReturnsHold (msp430_machine setting.device) (msp430_analysis setting) (Covers setting.device) known_joined (msp430_flow setting)
+returns_hold : Laws → (setting : Setting) → IsSetting setting
+    → ReturnsHold (msp430_machine setting.device) (msp430_analysis setting) (Covers setting.device) known_joined (msp430_flow setting)
 unfolding msp430_machine msp430_analysis
 returns_hold laws setting so =
     let device = setting.device in
@@ -160,7 +171,8 @@ module _ (laws : Laws) (setting : Setting) (so : IsSetting setting) where
   entry_of frame a instr.ReturnFromInterrupt h = (laws.returns.base setting.device frame a h).1
 
   -- where an instruction goes on, what is known is in form
-  onward_known : (pc : ℕ) (frame : Frame) (a : Known) → IsKnown setting.device.ram.lo setting.device.ram.hi (is_interrupt frame) a → IsEvenWord pc → (instr_so : Instr)
+  onward_known : (pc : ℕ) (frame : Frame) (a : Known)
+      → IsKnown setting.device.ram.lo setting.device.ram.hi (is_interrupt frame) a → IsEvenWord pc → (instr_so : Instr)
       → fetched setting.device.image pc ≡ Some instr_so
       → IsOnward IsEvenWord (IsAhead setting.device (is_interrupt frame) (gie_of a)) (onward_of setting frame a pc instr_so (worked setting.device (is_interrupt frame) a pc instr_so))
   onward_known pc frame a form even instr_so is =
@@ -171,7 +183,8 @@ module _ (laws : Laws) (setting : Setting) (so : IsSetting setting) where
       onward_cases setting frame a pc instr_so (worked device framed a pc instr_so) (IsOnward IsEvenWord (IsAhead device framed (gie_of a)))
       (λ _. exit_formed laws device framed a pc device_so form even instr_so fits) (λ _. tt) (λ _. onward_formed laws device framed a pc device_so form even instr_so fits)
 
-  forms_posts : (pc : ℕ) (calls : List ℕ) (frame : Frame) (a : Known) → HasChipForm setting.device.ram.lo setting.device.ram.hi (At pc calls frame) a
+  forms_posts : (pc : ℕ) (calls : List ℕ) (frame : Frame) (a : Known)
+      → HasChipForm setting.device.ram.lo setting.device.ram.hi (At pc calls frame) a
       → FormsPosts (msp430_analysis setting) known_joined (msp430_flow setting) pc calls frame a
   unfolding msp430_analysis
   forms_posts pc calls frame a form =
@@ -205,10 +218,12 @@ module _ (laws : Laws) (setting : Setting) (so : IsSetting setting) where
 
 -- THE LAWS
 
-pub alike_form : (a b : Setting) → AreAlike a b → (node : Node) (state : Known) → HasChipForm a.device.ram.lo a.device.ram.hi node state → HasChipForm b.device.ram.lo b.device.ram.hi node state
+pub alike_form : (a b : Setting) → AreAlike a b → (node : Node) (state : Known)
+    → HasChipForm a.device.ram.lo a.device.ram.hi node state → HasChipForm b.device.ram.lo b.device.ram.hi node state
 alike_form a b alike node state form = subst (λ ram. HasChipForm ram.lo ram.hi node state) alike.ram form
 
-pub lawful : Laws → (setting : Setting) → IsSetting setting → IsLawful (msp430_machine setting.device) (msp430_analysis setting) (Covers setting.device)
+pub lawful : Laws → (setting : Setting) → IsSetting setting
+    → IsLawful (msp430_machine setting.device) (msp430_analysis setting) (Covers setting.device)
 unfolding msp430_machine msp430_analysis
 lawful laws setting so =
     let device = setting.device in

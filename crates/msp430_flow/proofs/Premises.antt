@@ -33,10 +33,13 @@ use Rattle.msp430_branch.specs.Laws.{CutsHold, FactsHold}
 
 -- what the chip does
 pub record Steps : Type 0 where
-  pub lead : (device : Device) (s : ChipState) → length device.image ≡ 65536 → All IsByte device.image → Gives (MayLead device s) (step_of device s)
-  pub front : (device : Device) (s : ChipState) (choices rest : List ℕ) (outcome : Outcome ChipState) → step_of device s choices ≡ Some (outcome, rest)
+  pub lead : (device : Device) (s : ChipState) → length device.image ≡ 65536 → All IsByte device.image
+      → Gives (MayLead device s) (step_of device s)
+  pub front : (device : Device) (s : ChipState) (choices rest : List ℕ) (outcome : Outcome ChipState)
+      → step_of device s choices ≡ Some (outcome, rest)
       → (front : List ℕ) × (choices ≡ front ++ rest) × Step device s front outcome
-  pub keep : (device : Device) (s t : ChipState) (choices : List ℕ) (items : List Single) → length device.image ≡ 65536 → All IsByte device.image
+  pub keep : (device : Device) (s t : ChipState) (choices : List ℕ) (items : List Single) → length device.image ≡ 65536
+      → All IsByte device.image
       → IsChipState device s → Step device s choices (Next items t) → IsChipState device t
 
 -- what stands at an address
@@ -44,30 +47,40 @@ pub record Decoding : Type 0 where
   pub answer : (image : List (Option ℕ)) (pc : ℕ) → length image ≡ 65536 → All IsByte image → Decodes image pc (decoded image pc)
   pub one : (image : List (Option ℕ)) (pc : ℕ) (answer : Result (Instr × ℕ) NoInstr) → length image ≡ 65536 → All IsByte image
       → Decodes image pc answer → answer ≡ decoded image pc
-  pub instruction : (image : List (Option ℕ)) (pc len : ℕ) (instr : Instr) → length image ≡ 65536 → All IsByte image → decoded image pc ≡ Ok (instr, len)
+  pub instruction : (image : List (Option ℕ)) (pc len : ℕ) (instr : Instr) → length image ≡ 65536 → All IsByte image
+      → decoded image pc ≡ Ok (instr, len)
       → IsInstr instr × (len ≡ length_of instr) × AreThere (upward image pc) 0 (bytes_of instr)
 
 -- what is known of states
 pub record States : Type 0 where
   pub itself : (lo hi : ℕ) (framed : Bool) (a : Known) → IsKnown lo hi framed a → known_within a a ≡ true
   pub along : (a b c : Known) → known_within a b ≡ true → known_within b c ≡ true → known_within a c ≡ true
-  pub join_held : (lo hi : ℕ) (framed : Bool) (a b : Known) → IsKnown lo hi framed a → IsKnown lo hi framed b → known_within a (known_joined a b) ≡ true
-  pub join_new : (lo hi : ℕ) (framed : Bool) (a b : Known) → IsKnown lo hi framed a → IsKnown lo hi framed b → known_within b (known_joined a b) ≡ true
-  pub widen_held : (lo hi : ℕ) (framed : Bool) (marks : List ℕ) → AreMarks 65536 marks → (a b : Known) → IsKnown lo hi framed a → IsKnown lo hi framed b
+  pub join_held : (lo hi : ℕ) (framed : Bool) (a b : Known) → IsKnown lo hi framed a → IsKnown lo hi framed b
+      → known_within a (known_joined a b) ≡ true
+  pub join_new : (lo hi : ℕ) (framed : Bool) (a b : Known) → IsKnown lo hi framed a → IsKnown lo hi framed b
+      → known_within b (known_joined a b) ≡ true
+  pub widen_held : (lo hi : ℕ) (framed : Bool) (marks : List ℕ) → AreMarks 65536 marks → (a b : Known)
+      → IsKnown lo hi framed a → IsKnown lo hi framed b
       → known_within a (known_widened marks a b) ≡ true
-  pub widen_new : (lo hi : ℕ) (framed : Bool) (marks : List ℕ) → AreMarks 65536 marks → (a b : Known) → IsKnown lo hi framed a → IsKnown lo hi framed b
+  pub widen_new : (lo hi : ℕ) (framed : Bool) (marks : List ℕ) → AreMarks 65536 marks → (a b : Known)
+      → IsKnown lo hi framed a → IsKnown lo hi framed b
       → known_within b (known_widened marks a b) ≡ true
   pub greatest : (lo hi : ℕ) (framed : Bool) (a : Known) → IsKnown lo hi framed a → known_within a (top_known lo hi framed) ≡ true
   pub first_form : (lo hi : ℕ) (framed : Bool) → IsKnown lo hi framed (first_known lo hi)
   pub top_form : (lo hi : ℕ) (framed : Bool) → lo ≤ hi → IsKnown lo hi framed (top_known lo hi framed)
-  pub join_form : (lo hi : ℕ) (framed : Bool) (a b : Known) → IsKnown lo hi framed a → IsKnown lo hi framed b → IsKnown lo hi framed (known_joined a b)
-  pub widen_form : (lo hi : ℕ) (framed : Bool) (marks : List ℕ) → AreMarks 65536 marks → (a b : Known) → IsKnown lo hi framed a → IsKnown lo hi framed b
+  pub join_form : (lo hi : ℕ) (framed : Bool) (a b : Known) → IsKnown lo hi framed a → IsKnown lo hi framed b
+      → IsKnown lo hi framed (known_joined a b)
+  pub widen_form : (lo hi : ℕ) (framed : Bool) (marks : List ℕ) → AreMarks 65536 marks → (a b : Known)
+      → IsKnown lo hi framed a → IsKnown lo hi framed b
       → IsKnown lo hi framed (known_widened marks a b)
-  pub parts : (device : Device) (lo hi : ℕ) (framed : Bool) (a b : Known) (first : Option ChipState) (registers ram : List ℕ) → IsKnown lo hi framed a
+  pub parts : (device : Device) (lo hi : ℕ) (framed : Bool) (a b : Known) (first : Option ChipState) (registers ram : List ℕ)
+      → IsKnown lo hi framed a
       → known_within a b ≡ true → HoldsOfParts device a first registers ram → HoldsOfParts device b first registers ram
-  pub more : (device : Device) (lo hi : ℕ) (framed : Bool) (node : Node) (a b : Known) (s : ChipState) (first : Option ChipState) → IsKnown lo hi framed a
+  pub more : (device : Device) (lo hi : ℕ) (framed : Bool) (node : Node) (a b : Known) (s : ChipState) (first : Option ChipState)
+      → IsKnown lo hi framed a
       → known_within a b ≡ true → Covers device node a s first → Covers device node b s first
-  pub reset : (device : Device) (s : ChipState) → IsResetOf device s → Covers device (At (reset_address device) [] Base) (first_known device.ram.lo device.ram.hi) s None
+  pub reset : (device : Device) (s : ChipState) → IsResetOf device s
+      → Covers device (At (reset_address device) [] Base) (first_known device.ram.lo device.ram.hi) s None
 
 pub record Laws : Type 0 where
   pub known : KnownLaws

@@ -81,15 +81,18 @@ pub record IsRun (device : Device) (framed : Bool) (a : Known) (s : ChipState) (
   pub outcome_is : outcome ≡ done s instr_so accesses left
   pub way : HasWay device first (all_ways device framed a (register_of s 0) instr_so) (slice_index left.registers 0) left.registers left.ram
   pub shown : AreShown (worked device framed a (register_of s 0) instr_so).accesses accesses
-  pub hit : (at : ℕ) → left.hit ≡ Some at → IsHit device (stored_width instr_so) (worked device framed a (register_of s 0) instr_so).store at
+  pub hit : (at : ℕ) → left.hit ≡ Some at
+      → IsHit device (stored_width instr_so) (worked device framed a (register_of s 0) instr_so).store at
   pub back : GoesBack device a first instr_so (worked device framed a (register_of s 0) instr_so) left
 
-parts_followed : (device : Device) (late : Tri) (fact : Option FlagFact) (b : Known) (first : Option ChipState) (registers ram : List ℕ) → HoldsOfParts device b first registers ram
+parts_followed : (device : Device) (late : Tri) (fact : Option FlagFact) (b : Known) (first : Option ChipState) (registers ram : List ℕ)
+    → HoldsOfParts device b first registers ram
     → HoldsOfFact fact registers → HoldsOfParts device (followed late fact b) first registers ram
 parts_followed device late fact b first registers ram h told = assumption (h, told)
 
 -- an instruction that goes to each address that PC may have
-by_next : Laws → (device : Device) (framed : Bool) (a : Known) (s : ChipState) (first : Option ChipState) (instr_so : Instr) (outcome : Outcome ChipState)
+by_next : Laws
+    → (device : Device) (framed : Bool) (a : Known) (s : ChipState) (first : Option ChipState) (instr_so : Instr) (outcome : Outcome ChipState)
     → all_ways device framed a (register_of s 0) instr_so ≡ ways_to (worked device framed a (register_of s 0) instr_so).next (known_behind device framed a (register_of s 0) instr_so)
     → (comes : ComesTo device s first instr_so (worked device framed a (register_of s 0) instr_so) (stored_width instr_so) outcome)
     → GoesBack device a first instr_so (worked device framed a (register_of s 0) instr_so) comes.left
@@ -117,12 +120,14 @@ by_next laws device framed a s first instr_so outcome is comes back =
     }
 
 -- RETI alone leaves its frame
-stays_in : (device : Device) (frame : Frame) (a : Known) (instr_so : Instr) → leaves_frame device frame a instr_so ≡ false → leaves_frame device frame a instr_so ≡ true → ⊥
+stays_in : (device : Device) (frame : Frame) (a : Known) (instr_so : Instr)
+    → leaves_frame device frame a instr_so ≡ false → leaves_frame device frame a instr_so ≡ true → ⊥
 stays_in device frame a instr_so stay leave = cc
 
 -- TWO OPERANDS
 
-double_comes : Laws → (device : Device) (framed : Bool) (a : Known) (s : ChipState) (first : Option ChipState) (operation : Operation) (width : Width) (origin : Source) (target : Destination) (outcome : Outcome ChipState)
+double_comes : Laws
+    → (device : Device) (framed : Bool) (a : Known) (s : ChipState) (first : Option ChipState) (operation : Operation) (width : Width) (origin : Source) (target : Destination) (outcome : Outcome ChipState)
     → IsUnder device framed a s first → IsInstr (instr.Double operation width origin target) → LeavesStatus target
     → MayDouble device s (length_of (instr.Double operation width origin target)) operation width origin target outcome
     → ComesTo device s first (instr.Double operation width origin target) (double_worked device framed a (register_of s 0) (length_of (instr.Double operation width origin target)) operation width origin target) width outcome
@@ -141,7 +146,8 @@ double_comes laws device framed a s first operation width origin target outcome 
     }
 
 -- SR as the destination
-status_comes : Laws → (device : Device) (framed : Bool) (a : Known) (s : ChipState) (first : Option ChipState) (operation : Operation) (width : Width) (origin : Source) (outcome : Outcome ChipState)
+status_comes : Laws
+    → (device : Device) (framed : Bool) (a : Known) (s : ChipState) (first : Option ChipState) (operation : Operation) (width : Width) (origin : Source) (outcome : Outcome ChipState)
     → IsUnder device framed a s first → IsSource origin
     → MayDouble device s (length_of (instr.Double operation width origin (destination.Register Sr))) operation width origin (destination.Register Sr) outcome
     → ComesTo device s first (instr.Double operation width origin (destination.Register Sr))
@@ -166,7 +172,8 @@ double_stays : (device : Device) (a : Known) (first : Option ChipState) (made_so
 double_stays device a first made_so left operation width origin target frame standing leaves =
     absurd (stays_in device frame a (instr.Double operation width origin target) refl leaves)
 
-status_run : Laws → (device : Device) (framed : Bool) (a : Known) (s : ChipState) (first : Option ChipState) (operation : Operation) (width : Width) (origin : Source) (target : Destination) (outcome : Outcome ChipState)
+status_run : Laws
+    → (device : Device) (framed : Bool) (a : Known) (s : ChipState) (first : Option ChipState) (operation : Operation) (width : Width) (origin : Source) (target : Destination) (outcome : Outcome ChipState)
     → IsUnder device framed a s first → IsInstr (instr.Double operation width origin target)
     → MayDouble device s (length_of (instr.Double operation width origin target)) operation width origin target outcome
     → target ≡ destination.Register Sr
@@ -179,7 +186,8 @@ status_run laws device framed a s first operation width origin target outcome un
     (double_stays device a first (worked device framed a (register_of s 0) (instr.Double operation width origin (destination.Register Sr))) comes.left operation width origin (destination.Register Sr))) fits may
 
 -- either of them
-double_run : Laws → (device : Device) (framed : Bool) (a : Known) (s : ChipState) (first : Option ChipState) (operation : Operation) (width : Width) (origin : Source) (target : Destination) (outcome : Outcome ChipState)
+double_run : Laws
+    → (device : Device) (framed : Bool) (a : Known) (s : ChipState) (first : Option ChipState) (operation : Operation) (width : Width) (origin : Source) (target : Destination) (outcome : Outcome ChipState)
     → IsUnder device framed a s first → IsInstr (instr.Double operation width origin target)
     → MayDouble device s (length_of (instr.Double operation width origin target)) operation width origin target outcome
     → TargetView target → IsRun device framed a s first (instr.Double operation width origin target) outcome
@@ -193,7 +201,8 @@ double_run laws device framed a s first operation width origin target outcome un
 
 -- ONE OPERAND
 
-pub width_of : (operation : SingleOperation) (width : Width) (operand : Source) → IsInstr (instr.Single operation width operand) → HasWidth operation width
+pub width_of : (operation : SingleOperation) (width : Width) (operand : Source)
+    → IsInstr (instr.Single operation width operand) → HasWidth operation width
 width_of Rrc width operand fits = tt
 width_of Swpb Word operand fits = tt
 width_of Swpb Byte operand fits = absurd fits.1.0
@@ -203,7 +212,8 @@ width_of Sxt Byte operand fits = absurd fits.1.0
 width_of Push width operand fits = tt
 width_of Call width operand fits = tt
 
-single_comes : Laws → (device : Device) (framed : Bool) (a : Known) (s : ChipState) (first : Option ChipState) (operation : SingleOperation) (width : Width) (operand : Source) (outcome : Outcome ChipState)
+single_comes : Laws
+    → (device : Device) (framed : Bool) (a : Known) (s : ChipState) (first : Option ChipState) (operation : SingleOperation) (width : Width) (operand : Source) (outcome : Outcome ChipState)
     → IsUnder device framed a s first → IsInstr (instr.Single operation width operand) → LeavesStatusAlone operand
     → MaySingle device s (length_of (instr.Single operation width operand)) operation width operand outcome
     → ComesTo device s first (instr.Single operation width operand) (single_worked device framed a (register_of s 0) (length_of (instr.Single operation width operand)) operation width operand) width outcome
@@ -221,7 +231,8 @@ single_comes laws device framed a s first operation width operand outcome under 
       hit = λ at hits. laws.singles.hit device framed a s first len operation width operand outcome at under fits.0 may hits;
     }
 
-push_comes : Laws → (device : Device) (framed : Bool) (a : Known) (s : ChipState) (first : Option ChipState) (operation : SingleOperation) (width : Width) (operand : Source) (outcome : Outcome ChipState)
+push_comes : Laws
+    → (device : Device) (framed : Bool) (a : Known) (s : ChipState) (first : Option ChipState) (operation : SingleOperation) (width : Width) (operand : Source) (outcome : Outcome ChipState)
     → IsUnder device framed a s first → IsInstr (instr.Single operation width operand)
     → MayPush device s (length_of (instr.Single operation width operand)) operation width operand outcome
     → ComesTo device s first (instr.Single operation width operand) (push_worked device framed a (register_of s 0) (length_of (instr.Single operation width operand)) operation width operand) Word outcome
@@ -240,7 +251,8 @@ push_comes laws device framed a s first operation width operand outcome under fi
     }
 
 -- SR as the operand
-single_status_comes : Laws → (device : Device) (framed : Bool) (a : Known) (s : ChipState) (first : Option ChipState) (operation : SingleOperation) (width : Width) (outcome : Outcome ChipState)
+single_status_comes : Laws
+    → (device : Device) (framed : Bool) (a : Known) (s : ChipState) (first : Option ChipState) (operation : SingleOperation) (width : Width) (outcome : Outcome ChipState)
     → IsUnder device framed a s first → IsInstr (instr.Single operation width (source.Register Sr))
     → MaySingle device s (length_of (instr.Single operation width (source.Register Sr))) operation width (source.Register Sr) outcome
     → ComesTo device s first (instr.Single operation width (source.Register Sr))
@@ -264,12 +276,14 @@ single_stays : (device : Device) (a : Known) (first : Option ChipState) (made_so
     → GoesBack device a first (instr.Single operation width operand) made_so left
 single_stays device a first made_so left operation width operand frame standing leaves = absurd (stays_in device frame a (instr.Single operation width operand) refl leaves)
 
-push_run : Laws → (device : Device) (framed : Bool) (a : Known) (s : ChipState) (first : Option ChipState) (operation : SingleOperation) (width : Width) (operand : Source) (outcome : Outcome ChipState)
+push_run : Laws
+    → (device : Device) (framed : Bool) (a : Known) (s : ChipState) (first : Option ChipState) (operation : SingleOperation) (width : Width) (operand : Source) (outcome : Outcome ChipState)
     → IsUnder device framed a s first → IsInstr (instr.Single operation width operand)
     → MayPush device s (length_of (instr.Single operation width operand)) operation width operand outcome
     → worked device framed a (register_of s 0) (instr.Single operation width operand)
     ≡ push_worked device framed a (register_of s 0) (length_of (instr.Single operation width operand)) operation width operand
-    → stored_width (instr.Single operation width operand) ≡ Word → IsRun device framed a s first (instr.Single operation width operand) outcome
+    → stored_width (instr.Single operation width operand) ≡ Word
+    → IsRun device framed a s first (instr.Single operation width operand) outcome
 push_run laws device framed a s first operation width operand outcome under fits may is wide =
     let i = instr.Single operation width operand in
     let comes = subst (λ w. ComesTo device s first i (worked device framed a (register_of s 0) i) w outcome) (sym wide)
@@ -277,12 +291,14 @@ push_run laws device framed a s first operation width operand outcome under fits
     by_next laws device framed a s first i outcome refl comes (single_stays device a first (worked device framed a (register_of s 0) i) comes.left operation width operand)
 
 -- an operation that pushes nothing
-plain_run : Laws → (device : Device) (framed : Bool) (a : Known) (s : ChipState) (first : Option ChipState) (operation : SingleOperation) (width : Width) (operand : Source) (outcome : Outcome ChipState)
+plain_run : Laws
+    → (device : Device) (framed : Bool) (a : Known) (s : ChipState) (first : Option ChipState) (operation : SingleOperation) (width : Width) (operand : Source) (outcome : Outcome ChipState)
     → IsUnder device framed a s first → IsInstr (instr.Single operation width operand)
     → MaySingle device s (length_of (instr.Single operation width operand)) operation width operand outcome
     → worked device framed a (register_of s 0) (instr.Single operation width operand)
     ≡ single_or_status device framed a (register_of s 0) (length_of (instr.Single operation width operand)) operation width operand
-    → stored_width (instr.Single operation width operand) ≡ width → OperandView operand → IsRun device framed a s first (instr.Single operation width operand) outcome
+    → stored_width (instr.Single operation width operand) ≡ width → OperandView operand
+    → IsRun device framed a s first (instr.Single operation width operand) outcome
 plain_run laws device framed a s first operation width operand outcome under fits may is wide (other_operand leaves same) =
     let i = instr.Single operation width operand in
     let comes = subst (λ w. ComesTo device s first i (worked device framed a (register_of s 0) i) w outcome) (sym wide)
@@ -302,7 +318,8 @@ plain_run laws device framed a s first operation width operand outcome under fit
 -- JUMPS
 
 -- a fact speaks of SR and of one of R4 to R15
-jumped_fact : (fact : Option FlagFact) (registers : List ℕ) (next : ℕ) → IsFact fact → HoldsOfFact fact registers → HoldsOfFact fact (slice_set registers 0 next)
+jumped_fact : (fact : Option FlagFact) (registers : List ℕ) (next : ℕ) → IsFact fact → HoldsOfFact fact registers
+    → HoldsOfFact fact (slice_set registers 0 next)
 jumped_fact None registers next is h = tt
 jumped_fact (Some fact) registers next is h =
     let low : 3 < fact.register = is.0 in
@@ -312,7 +329,8 @@ jumped_fact (Some fact) registers next is h =
     (subst (λ r. HasFlagsOf fact.width ((slice_index registers fact.register + fact.added) % modulus fact.width) fact.compared r × (fact.width ≡ Byte → slice_index registers fact.register < 256)) (sym sr) h)
 
 -- registers with another PC
-jumped_parts : (device : Device) (a : Known) (s : ChipState) (first : Option ChipState) (next : ℕ) → IsFact a.fact → HoldsOfParts device a first s.registers s.ram
+jumped_parts : (device : Device) (a : Known) (s : ChipState) (first : Option ChipState) (next : ℕ) → IsFact a.fact
+    → HoldsOfParts device a first s.registers s.ram
     → HoldsOfParts device a first (slice_set s.registers 0 next) s.ram
 jumped_parts device a s first next is h =
     let sp = get_or-set_other s.registers 0 1 next 0 (λ e. omega arith) in
@@ -347,7 +365,8 @@ module _ (laws : Laws) (device : Device) (framed : Bool) (first : Option ChipSta
   joined_second : (a b : Known) → Is a → Is b → Holds b → Holds (known_joined a b)
   joined_second a b f g h = laws.states.parts device device.ram.lo device.ram.hi framed b (known_joined a b) first registers ram g (laws.states.join_new device.ram.lo device.ram.hi framed a b f g) h
 
-  cut_known : (condition : Condition) (taken : Bool) (a : Known) (found : Option Known) → Is a → known_cut condition taken a ≡ found → IfSome found Is
+  cut_known : (condition : Condition) (taken : Bool) (a : Known) (found : Option Known) → Is a
+      → known_cut condition taken a ≡ found → IfSome found Is
   cut_known condition taken a None f e = tt
   cut_known condition taken a (Some b) f e = laws.cuts.form device.ram.lo device.ram.hi framed a b condition taken f e
 
@@ -363,10 +382,12 @@ module _ (laws : Laws) (device : Device) (framed : Bool) (first : Option ChipSta
       let jumped = known_cut condition true a in
       way_on laws.ways known_joined Is Holds ((pc + 2) % 65536) (target_of pc offset) on jumped (cut_known condition false a on f refl) (cut_known condition true a jumped f refl) joined_first b e h
 
-pub late_form : (lo hi : ℕ) (framed : Bool) (late : Tri) (fact : Option FlagFact) (b : Known) → IsFact fact → IsKnown lo hi framed b → IsKnown lo hi framed (followed late fact b)
+pub late_form : (lo hi : ℕ) (framed : Bool) (late : Tri) (fact : Option FlagFact) (b : Known) → IsFact fact
+    → IsKnown lo hi framed b → IsKnown lo hi framed (followed late fact b)
 late_form lo hi framed late fact b told form = assumption (form, told)
 
-jump_run : Laws → (device : Device) (framed : Bool) (a : Known) (s : ChipState) (first : Option ChipState) (condition : Condition) (offset : ℕ) (outcome : Outcome ChipState)
+jump_run : Laws
+    → (device : Device) (framed : Bool) (a : Known) (s : ChipState) (first : Option ChipState) (condition : Condition) (offset : ℕ) (outcome : Outcome ChipState)
     → IsUnder device framed a s first → outcome ≡ jump s condition offset
     → IsRun device framed a s first (instr.Jump condition offset) outcome
 jump_run laws device framed a s first condition offset outcome under is =
@@ -415,7 +436,8 @@ return_run laws device framed a s first outcome under may =
 
 -- EVERY INSTRUCTION
 
-pub instr_run : Laws → (device : Device) (framed : Bool) (a : Known) (s : ChipState) (first : Option ChipState) (instr_so : Instr) (outcome : Outcome ChipState)
+pub instr_run : Laws
+    → (device : Device) (framed : Bool) (a : Known) (s : ChipState) (first : Option ChipState) (instr_so : Instr) (outcome : Outcome ChipState)
     → IsUnder device framed a s first → IsInstr instr_so → MayRun device s instr_so (length_of instr_so) outcome
     → IsRun device framed a s first instr_so outcome
 instr_run laws device framed a s first (instr.Double operation width origin target) outcome under fits may =

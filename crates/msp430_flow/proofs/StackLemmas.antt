@@ -53,7 +53,8 @@ access_words device pc write width (InMemory set) = (tt, tt)
 access_words device pc write width (InRegister register) = tt
 access_words device pc write width (Fixed value) = tt
 
-access_if_words : (is : Bool) (device : Device) (pc : ℕ) (write : Bool) (width : Width) (reach : Reach) → AreWordly (access_if is device pc write width reach)
+access_if_words : (is : Bool) (device : Device) (pc : ℕ) (write : Bool) (width : Width) (reach : Reach)
+    → AreWordly (access_if is device pc write width reach)
 access_if_words true device pc write width reach = access_words device pc write width reach
 access_if_words false device pc write width reach = tt
 
@@ -80,7 +81,8 @@ module _ (device : Device) (framed : Bool) (a : Known) (pc : ℕ) where
   unfolding double_worked
   double_words len done width origin target = three_words device pc width (reads_destination done) (writes_result done) _ _
 
-  status_words : (len : ℕ) (done : Operation) (width : Width) (origin : Source) → AreShownAsWords (status_worked device framed a pc len done width origin)
+  status_words : (len : ℕ) (done : Operation) (width : Width) (origin : Source)
+      → AreShownAsWords (status_worked device framed a pc len done width origin)
   unfolding status_worked
   status_words len done width origin = access_words device pc false width _
 
@@ -89,7 +91,8 @@ module _ (device : Device) (framed : Bool) (a : Known) (pc : ℕ) where
   unfolding single_worked
   single_words len done width operand = both_words device pc width width _ _
 
-  single_status_words : (len : ℕ) (done : SingleOperation) (width : Width) → AreShownAsWords (single_status_worked device framed a pc len done width)
+  single_status_words : (len : ℕ) (done : SingleOperation) (width : Width)
+      → AreShownAsWords (single_status_worked device framed a pc len done width)
   unfolding single_status_worked
   single_status_words len done width = tt
 

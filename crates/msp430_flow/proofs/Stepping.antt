@@ -63,13 +63,15 @@ unfolding fetched
 fetching_at image pc even = subst (Fetching (decoded image pc)) (sym (cond-true _ (found_by (decoded image pc)) None (ap (λ n. n == 0) even)))
     (by_answer (decoded image pc))
 
-instr_of : Laws → (device : Device) → IsProgram device → (pc : ℕ) (instr_so : Instr) (found : Option Instr) → found ≡ Some instr_so → Fetching (decoded device.image pc) found → IsInstr instr_so
+instr_of : Laws → (device : Device) → IsProgram device → (pc : ℕ) (instr_so : Instr) (found : Option Instr)
+    → found ≡ Some instr_so → Fetching (decoded device.image pc) found → IsInstr instr_so
 instr_of laws device program pc instr_so found e (stands other len is same) =
     subst IsInstr (same_Some (sym same ∙ e)) (laws.decoding.instruction device.image pc len other program.read.size program.read.bytes is).0
 instr_of laws device program pc instr_so found e (none_stands refusal is same) = absurd (let both = sym same ∙ e in cc)
 
 -- what is found is an instruction of the table
-pub instr_found : Laws → (device : Device) → IsProgram device → (pc : ℕ) (instr_so : Instr) → fetched device.image pc ≡ Some instr_so → pc % 2 ≡ 0 → IsInstr instr_so
+pub instr_found : Laws → (device : Device) → IsProgram device → (pc : ℕ) (instr_so : Instr)
+    → fetched device.image pc ≡ Some instr_so → pc % 2 ≡ 0 → IsInstr instr_so
 instr_found laws device program pc instr_so found even = instr_of laws device program pc instr_so (fetched device.image pc) found (fetching_at device.image pc even)
 
 -- PROGRAMS
@@ -85,7 +87,8 @@ device_of device program = record {
   ram = has_ram device program;
 }
 
-pub in_base : (device : Device) (frame : Frame) (s : ChipState) (first : Option ChipState) → StandsIn frame first → is_interrupt frame ≡ false → first ≡ None
+pub in_base : (device : Device) (frame : Frame) (s : ChipState) (first : Option ChipState) → StandsIn frame first
+    → is_interrupt frame ≡ false → first ≡ None
 in_base device Base s first stands_so e = stands_so
 in_base device (Irq vector sp level) s first stands_so e = absurd (cc)
 
@@ -93,11 +96,15 @@ in_base device (Irq vector sp level) s first stands_so e = absurd (cc)
 
 -- what a step comes to: the entry of an interrupt, an instruction, or none
 pub data Comes (device : Device) (framed : Bool) (a : Known) (s : ChipState) (first : Option ChipState) (outcome : Outcome ChipState) : Type 0 where
-  entered : (coming_so : Coming) (bits : ℕ) → ComesSo device a s coming_so → bits < 128 → outcome ≡ entry device s coming_so.vector bits → Comes device framed a s first outcome
-  ran : (instr_so : Instr) → fetched device.image (register_of s 0) ≡ Some instr_so → IsInstr instr_so → IsRun device framed a s first instr_so outcome → Comes device framed a s first outcome
-  refused : (refusal : NoInstr) → fetched device.image (register_of s 0) ≡ None → outcome ≡ Leaves (wild_cause.NoInstr refusal) → Comes device framed a s first outcome
+  entered : (coming_so : Coming) (bits : ℕ) → ComesSo device a s coming_so → bits < 128
+      → outcome ≡ entry device s coming_so.vector bits → Comes device framed a s first outcome
+  ran : (instr_so : Instr) → fetched device.image (register_of s 0) ≡ Some instr_so → IsInstr instr_so
+      → IsRun device framed a s first instr_so outcome → Comes device framed a s first outcome
+  refused : (refusal : NoInstr) → fetched device.image (register_of s 0) ≡ None
+      → outcome ≡ Leaves (wild_cause.NoInstr refusal) → Comes device framed a s first outcome
 
-leads : Laws → (device : Device) → IsProgram device → (framed : Bool) (a : Known) (s : ChipState) (first : Option ChipState) (outcome : Outcome ChipState)
+leads : Laws → (device : Device) → IsProgram device
+    → (framed : Bool) (a : Known) (s : ChipState) (first : Option ChipState) (outcome : Outcome ChipState)
     → IsUnder device framed a s first → register_of s 0 % 2 ≡ 0 → MayLead device s outcome
     → Comes device framed a s first outcome
 leads laws device program framed a s first outcome under even (Enters vector bits there below is) =
@@ -114,7 +121,8 @@ leads laws device program framed a s first outcome under even (NoneStands refusa
     let none : decoded device.image pc ≡ Err refusal = sym (laws.decoding.one device.image pc (Err refusal) program.read.size program.read.bytes decodes) in
     refused refusal (none_found (decoded device.image pc) refusal (fetched device.image pc) none (fetching_at device.image pc even)) is
 
-pub comes : Laws → (device : Device) → IsProgram device → (framed : Bool) (a : Known) (s : ChipState) (first : Option ChipState) (outcome : Outcome ChipState)
+pub comes : Laws → (device : Device) → IsProgram device
+    → (framed : Bool) (a : Known) (s : ChipState) (first : Option ChipState) (outcome : Outcome ChipState)
     → IsUnder device framed a s first → (choices left : List ℕ)
     → step_of device s choices ≡ Some (outcome, left) → Comes device framed a s first outcome
 comes laws device program framed a s first outcome under choices left step =
@@ -152,7 +160,8 @@ same_wild : {one other : WildCause} → ◌≡◌ {A = Outcome ChipState} (Leave
 same_wild e = cc
 
 -- where an address of a store is in its set, the store is left open
-opened_at : (device : Device) (width : Width) (set : Form) (at : ℕ) → IsHit device width (Some set) at → open_store device width set ≡ Some (Store set)
+opened_at : (device : Device) (width : Width) (set : Form) (at : ℕ) → IsHit device width (Some set) at
+    → open_store device width set ≡ Some (Store set)
 opened_at device width set at hit = cond-true (may_hit device width set) (Some (Store set)) None (hit_told device width set at hit)
 
 told_by : (work : Work Known) (pc at : ℕ) (set : Form) → Contains work.opens (pc, Store set) → IsTold work (program_written at)
@@ -180,10 +189,12 @@ hit_told_by setting calls frame a s first instr_so wild run (Some at) e =
     subst (λ w. IsTold (work_at known_joined (msp430_flow setting) (register_of s 0) calls frame a (Some instr_so)) (leaving_of w)) (sym (same_wild outcome))
     (store_told setting (register_of s 0) calls frame a instr_so made_so at made_so.store refl (run.hit at e))
 
-opened_in : (device : Device) (pc at : ℕ) (set : Form) → IsHit device Word (Some set) at → Contains (store_opens pc (open_store device Word set)) (pc, Store set)
+opened_in : (device : Device) (pc at : ℕ) (set : Form) → IsHit device Word (Some set) at
+    → Contains (store_opens pc (open_store device Word set)) (pc, Store set)
 opened_in device pc at set hit = subst (λ store. Contains (store_opens pc store) (pc, Store set)) (sym (opened_at device Word set at hit)) (in_first (pc, Store set) [])
 
-push_in : (device : Device) (pc at : ℕ) (coming_so : Coming) → IsHit device Word (Some (counter_slot device coming_so.sp)) at ⊎ IsHit device Word (Some (status_slot device coming_so.sp)) at
+push_in : (device : Device) (pc at : ℕ) (coming_so : Coming)
+    → IsHit device Word (Some (counter_slot device coming_so.sp)) at ⊎ IsHit device Word (Some (status_slot device coming_so.sp)) at
     → (set : Form) × Contains (push_opens device pc coming_so) (pc, Store set)
 push_in device pc at coming_so hits =
     let counter = counter_slot device coming_so.sp in
@@ -202,7 +213,8 @@ entry_hit : (device : Device) (s : ChipState) (vector bits : ℕ) (wild : WildCa
 entry_hit device s vector bits wild None is leaves = absurd (let both = leaves ∙ entry_by device s vector bits None is in cc)
 entry_hit device s vector bits wild (Some at) is leaves = (at, refl, same_wild (leaves ∙ entry_by device s vector bits (Some at) is))
 
-entry_told : Laws → (setting : Setting) (calls : List ℕ) (frame : Frame) (a : Known) (s : ChipState) (first : Option ChipState) (wild : WildCause) (found : Option Instr)
+entry_told : Laws
+    → (setting : Setting) (calls : List ℕ) (frame : Frame) (a : Known) (s : ChipState) (first : Option ChipState) (wild : WildCause) (found : Option Instr)
     → IsUnder setting.device (is_interrupt frame) a s first → (coming_so : Coming) (bits : ℕ) → ComesSo setting.device a s coming_so
     → ◌≡◌ {A = Outcome ChipState} (Leaves wild) (entry setting.device s coming_so.vector bits)
     → IsTold (work_at known_joined (msp430_flow setting) (register_of s 0) calls frame a found) (leaving_of wild)
@@ -216,7 +228,8 @@ entry_told laws setting calls frame a s first wild found under coming_so bits so
     subst (λ w. IsTold work (leaving_of w)) (sym why)
     (told_by work pc at set (entry_open known_joined (msp430_flow setting) pc calls frame a found coming_so (pc, Store set) so.listed there))
 
-pub told : Laws → (setting : Setting) (calls : List ℕ) (frame : Frame) (a : Known) (s : ChipState) (first : Option ChipState) (wild : WildCause)
+pub told : Laws
+    → (setting : Setting) (calls : List ℕ) (frame : Frame) (a : Known) (s : ChipState) (first : Option ChipState) (wild : WildCause)
     → IsUnder setting.device (is_interrupt frame) a s first → Comes setting.device (is_interrupt frame) a s first (Leaves wild)
     → IsTold (work_at known_joined (msp430_flow setting) (register_of s 0) calls frame a (fetched setting.device.image (register_of s 0))) (leaving_of wild)
 told laws setting calls frame a s first wild under (entered coming_so bits so below is) =
@@ -231,7 +244,8 @@ told laws setting calls frame a s first wild under (refused refusal found is) =
 
 -- OPENS BREAK THEIR LIMITS
 
-standing_of : Laws → (device : Device) → IsProgram device → (pc : ℕ) (instr_so : Instr) (found : Option Instr) → found ≡ Some instr_so → Fetching (decoded device.image pc) found
+standing_of : Laws → (device : Device) → IsProgram device → (pc : ℕ) (instr_so : Instr) (found : Option Instr)
+    → found ≡ Some instr_so → Fetching (decoded device.image pc) found
     → (len : ℕ) × Stands device.image pc instr_so len
 standing_of laws device program pc instr_so found e (stands other len is same) = (
   len,
@@ -241,13 +255,16 @@ standing_of laws device program pc instr_so found e (stands other len is same) =
 standing_of laws device program pc instr_so found e (none_stands refusal is same) = absurd (let both = sym same ∙ e in cc)
 
 -- a store that is left open can hit the program
-opens_can : (device : Device) (width : Width) (set : Form) (cause : Cause) → open_store device width set ≡ Some cause → (cause ≡ Store set) × CanHit device width set
+opens_can : (device : Device) (width : Width) (set : Form) (cause : Cause) → open_store device width set ≡ Some cause
+    → (cause ≡ Store set) × CanHit device width set
 opens_can device width set cause is =
     cond_both (may_hit device width set) (Some (Store set)) None (λ (store : Option Cause). store ≡ Some cause → (cause ≡ Store set) × CanHit device width set)
     (λ may same. (sym (same_Some same), may_hit_can device width set may)) (λ _ same. absurd (cc)) is
 
 -- an open of a store of an entry
-slot_open : (device : Device) (pc : ℕ) (set : Form) (open_so : ℕ × Cause) → Contains (store_opens pc (open_store device Word set)) open_so → (open_so ≡ (pc, Store set)) × CanHit device Word set
+slot_open : (device : Device) (pc : ℕ) (set : Form) (open_so : ℕ × Cause)
+    → Contains (store_opens pc (open_store device Word set)) open_so
+    → (open_so ≡ (pc, Store set)) × CanHit device Word set
 slot_open device pc set open_so h =
     let own : ℕ × Cause = (pc, Store set) in
     cond_both (may_hit device Word set) (Some (Store set)) None (λ (store : Option Cause). Contains (store_opens pc store) open_so → (open_so ≡ own) × CanHit device Word set)
@@ -258,7 +275,8 @@ module _ (laws : Laws) (setting : Setting) (program : IsProgram setting.device) 
   abbrev Breaking : ℕ × Cause → Type 0
   Breaking open_so = (pc ≡ open_so.0) × BreaksLimit setting (At pc calls frame) a open_so.1
 
-  push_breaks : IsKnown setting.device.ram.lo setting.device.ram.hi (is_interrupt frame) a → (coming_so : Coming) (open_so : ℕ × Cause) → Contains (comings_of setting.device a) coming_so
+  push_breaks : IsKnown setting.device.ram.lo setting.device.ram.hi (is_interrupt frame) a
+      → (coming_so : Coming) (open_so : ℕ × Cause) → Contains (comings_of setting.device a) coming_so
       → Contains (push_opens setting.device pc coming_so) open_so → Breaking open_so
   push_breaks form coming_so open_so listed there =
       let device = setting.device in
@@ -274,7 +292,8 @@ module _ (laws : Laws) (setting : Setting) (program : IsProgram setting.device) 
       ]
 
   store_breaks : (instr_so : Instr) → fetched setting.device.image pc ≡ Some instr_so → pc % 2 ≡ 0 → (cause : Cause) (store : Option Form)
-      → (worked setting.device (is_interrupt frame) a pc instr_so).store ≡ store → store_of setting.device (stored_width instr_so) store ≡ Some cause
+      → (worked setting.device (is_interrupt frame) a pc instr_so).store ≡ store
+      → store_of setting.device (stored_width instr_so) store ≡ Some cause
       → BreaksLimit setting (At pc calls frame) a cause
   store_breaks instr_so found even cause None stores is = absurd (cc)
   store_breaks instr_so found even cause (Some set) stores is =
@@ -283,13 +302,15 @@ module _ (laws : Laws) (setting : Setting) (program : IsProgram setting.device) 
       subst (BreaksLimit setting (At pc calls frame) a) (sym same) (inl (record { instr = instr_so; len = len; standing = standing; stores = stores; can = can }))
 
   targets_break : (instr_so : Instr) → fetched setting.device.image pc ≡ Some instr_so → pc % 2 ≡ 0 → (values : Form)
-      → onward_of setting frame a pc instr_so (worked setting.device (is_interrupt frame) a pc instr_so) ≡ onward.Open values → BreaksLimit setting (At pc calls frame) a (Targets values)
+      → onward_of setting frame a pc instr_so (worked setting.device (is_interrupt frame) a pc instr_so) ≡ onward.Open values
+      → BreaksLimit setting (At pc calls frame) a (Targets values)
   targets_break instr_so found even values is =
       let (len, standing) = standing_of laws setting.device program pc instr_so (fetched setting.device.image pc) found (fetching_at setting.device.image pc even) in
       let (next, many) = open_of setting frame a pc instr_so (worked setting.device (is_interrupt frame) a pc instr_so) values is in
       record { instr = instr_so; len = len; standing = standing; next = next; many = many }
 
-  pub location_breaks : HasChipForm setting.device.ram.lo setting.device.ram.hi (At pc calls frame) a → BreaksLimits (msp430_analysis setting) known_joined (msp430_flow setting) pc calls frame a
+  pub location_breaks : HasChipForm setting.device.ram.lo setting.device.ram.hi (At pc calls frame) a
+      → BreaksLimits (msp430_analysis setting) known_joined (msp430_flow setting) pc calls frame a
   unfolding msp430_analysis
   location_breaks form =
       let image = setting.device.image in

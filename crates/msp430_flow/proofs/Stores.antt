@@ -19,7 +19,8 @@ hit_told device width set at (address, has, hits) =
 
 -- AN OPEN STORE BREAKS ITS LIMIT
 
-can_at : (device : Device) (width : Width) (set : Form) (address : ℕ) → Has 65536 set address → (hit : Option ℕ) → hit_at device width address ≡ hit
+can_at : (device : Device) (width : Width) (set : Form) (address : ℕ) → Has 65536 set address → (hit : Option ℕ)
+    → hit_at device width address ≡ hit
     → is_some hit ≡ true → CanHit device width set
 can_at device width set address has None is some = absurd (cc)
 can_at device width set address has (Some at) is some = record { address = address; at = at; is_address = has; hits = is }

@@ -41,7 +41,8 @@ module _ (setting : Setting) (frame : Frame) (a : Known) (pc : ℕ) (its : Instr
       (λ stays. limited_is setting.limits.targets made.next ways_so Is (beyond stays) (along stays))
 
   -- a site that is left open has more targets than are followed
-  pub open_of : (values : Form) → onward_of setting frame a pc its made ≡ onward.Open values → (made.next ≡ values) × (setting.limits.targets < count_of 65536 values)
+  pub open_of : (values : Form) → onward_of setting frame a pc its made ≡ onward.Open values
+      → (made.next ≡ values) × (setting.limits.targets < count_of 65536 values)
   open_of values is =
       cond_both (leaves_frame setting.device frame a its) (onward.Leaves (followed (gie_of a) None made.after)) (onward_by setting.limits.targets (gie_of a) pc its made.next made.after)
       (λ (o : Onward Known). o ≡ onward.Open values → (made.next ≡ values) × (setting.limits.targets < count_of 65536 values))

@@ -32,7 +32,8 @@ is_comparison other = false
 
 -- the marks of an instruction: CMP and SUB with a constant have some
 abbrev pub marks_in : Instr → List ℕ
-marks_in (Double operation width operand target) = if is_comparison operation then marks_by 65536 (option_map (in_width width) (constant_of operand)) else []
+marks_in (Double operation width operand target) =
+    if is_comparison operation then marks_by 65536 (option_map (in_width width) (constant_of operand)) else []
 marks_in (Single operation width operand) = []
 marks_in (Jump condition offset) = []
 marks_in ReturnFromInterrupt = []

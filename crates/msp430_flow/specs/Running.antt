@@ -51,7 +51,8 @@ abbrev pub unchanged : Known → (next : ℕ) → Worked
 unchanged a next = record { after = a; next = single next; accesses = []; store = None }
 
 abbrev pub double_or_status : Device → (framed : Bool) → Known → (pc len : ℕ) → Operation → Width → Source → Destination → Worked
-double_or_status device framed a pc len operation width origin (destination.Register Sr) = status_worked device framed a pc len operation width origin
+double_or_status device framed a pc len operation width origin (destination.Register Sr) =
+    status_worked device framed a pc len operation width origin
 double_or_status device framed a pc len operation width origin other = double_worked device framed a pc len operation width origin other
 
 abbrev pub worked : Device → (framed : Bool) → Known → ℕ → Instr → Worked

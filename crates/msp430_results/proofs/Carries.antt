@@ -15,7 +15,8 @@ use Rattle.irq_frames.specs.KnownLaws.{KnownLaws}
 use Rattle.msp430_results.specs.FlagSets.{IsResult, is_few}
 use Rattle.msp430_results.specs.Results.{carry_answer, borrow_answer, borrowed, add_carry, sub_carry}
 
-pub combined : (laws : KnownLaws) (m : ℕ) (answer : ℕ → ℕ → ℕ → ℕ) (a b c otherwise : Form) (x y z : ℕ) → StaysBelow m answer → IsResult m a x → IsResult m b y → IsResult m c z
+pub combined : (laws : KnownLaws) (m : ℕ) (answer : ℕ → ℕ → ℕ → ℕ) (a b c otherwise : Form) (x y z : ℕ)
+    → StaysBelow m answer → IsResult m a x → IsResult m b y → IsResult m c z
     → IsResult m otherwise (answer x y z) → IsResult m (combine_or m answer a b c otherwise) (answer x y z)
 unfolding combine_or
 combined laws m answer a b c otherwise x y z stays h k l rest =
@@ -77,7 +78,8 @@ mod_inside a b m =
     let back : b + a ≡ a + b = omega arith in
     ap (λ n. n % m) turn ∙ add-mod-mod b a m ∙ ap (λ n. n % m) back
 
-pub carry_is : (laws : KnownLaws) (m x y z : ℕ) (a b : Form) (carry : Tri) → 2 < m → IsResult m a x → IsResult m b y → IsBit carry z → IsResult m (add_carry m a b carry) ((x + y + z) % m)
+pub carry_is : (laws : KnownLaws) (m x y z : ℕ) (a b : Form) (carry : Tri) → 2 < m → IsResult m a x → IsResult m b y
+    → IsBit carry z → IsResult m (add_carry m a b carry) ((x + y + z) % m)
 carry_is laws m x y z a b carry some h k bit =
     let c = chosen_is laws m z carry (omega arith) bit in
     combined laws m (carry_answer m) a b (chosen carry) (add m (add m a b) (chosen carry)) x y z (λ i j n p q r. mod-lt (i + j + n) {m = m} (omega arith)) h k c

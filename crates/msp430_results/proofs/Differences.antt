@@ -126,7 +126,8 @@ complement_sign m half y whole k = elim (cases_Bool (nat_le half y)) [
   | inr is ↦ let less = leb-false half y is in le-leb half (m - 1 - y) (omega (arith, whole, less, k)) ∙ sym (ap not is)
 ]
 
-near : (half x y : ℕ) (s : Bool) → x < half + half → y < half + half → nat_le half x ≡ s → nat_le half y ≡ s → (x < y + half) × (y ≤ x + half)
+near : (half x y : ℕ) (s : Bool) → x < half + half → y < half + half → nat_le half x ≡ s → nat_le half y ≡ s
+    → (x < y + half) × (y ≤ x + half)
 near half x y true h k p q = let low = leb-true half x p in let low_too = leb-true half y q in (omega (arith, h, low_too), omega (arith, k, low))
 near half x y false h k p q = let high = leb-false half x p in let high_too = leb-false half y q in (omega (arith, high), omega (arith, high_too))
 
@@ -153,7 +154,8 @@ flags_told width half x y z s whole sign h k p q =
       overflow = rw (p, other) (no_overflow s (is_negative width total));
     }
 
-sign_told : (width : Width) (x y z : ℕ) (s : Bool) → x < modulus width → y < modulus width → is_negative width x ≡ s → is_negative width y ≡ s
+sign_told : (width : Width) (x y z : ℕ) (s : Bool) → x < modulus width → y < modulus width → is_negative width x ≡ s
+    → is_negative width y ≡ s
     → AreTold (flags_by Difference width x y z) x y
 sign_told Word x y z s = flags_told Word 32768 x y z s refl (λ v. refl)
 sign_told Byte x y z s = flags_told Byte 128 x y z s refl (λ v. refl)
@@ -169,7 +171,8 @@ four c z n v p q r s h i j k = rw (h, i, j, k) refl
 abbrev pub HaveSign : Width → Form → Bool → Type 0
 HaveSign width set s = (v : ℕ) → Has (modulus width) set v → is_negative width v ≡ s
 
-ends_tell : (laws : KnownLaws) (width : Width) (a b : Form) (s : Bool) → AreFew (modulus width) a b (single 0) → HaveSign width a s → HaveSign width b s
+ends_tell : (laws : KnownLaws) (width : Width) (a b : Form) (s : Bool) → AreFew (modulus width) a b (single 0)
+    → HaveSign width a s → HaveSign width b s
     → compared (modulus width) a b ≡ all_agree (modulus width) (flags_by Difference width) a b (single 0)
 ends_tell laws width a b s sets first second =
     let m = modulus width in
@@ -182,8 +185,10 @@ ends_tell laws width a b s sets first second =
     (λ x y z h k l. (of x y z h k).negative)))
     (sym (clear laws m a b (single 0) sets (λ x y z. (flags_by Difference width x y z).overflow) (λ x y z h k l. (of x y z h k).overflow)))
 
-pub one_sign_tells : (laws : KnownLaws) (width : Width) (a b : Form) (s t : Tri) → is_one_sign s t ≡ true → AreFew (modulus width) a b (single 0)
-    → ((v : ℕ) → Has (modulus width) a v → IsFlag s (is_negative width v)) → ((v : ℕ) → Has (modulus width) b v → IsFlag t (is_negative width v))
+pub one_sign_tells : (laws : KnownLaws) (width : Width) (a b : Form) (s t : Tri) → is_one_sign s t ≡ true
+    → AreFew (modulus width) a b (single 0)
+    → ((v : ℕ) → Has (modulus width) a v → IsFlag s (is_negative width v))
+    → ((v : ℕ) → Has (modulus width) b v → IsFlag t (is_negative width v))
     → compared (modulus width) a b ≡ all_agree (modulus width) (flags_by Difference width) a b (single 0)
 one_sign_tells laws width a b Zero Zero one sets first second = ends_tell laws width a b false sets first second
 one_sign_tells laws width a b One One one sets first second = ends_tell laws width a b true sets first second

@@ -74,7 +74,8 @@ byte_flag Zero v small h = lt-leb 128 v (omega (arith, h))
 byte_flag One v small h = le-leb 128 v (omega (arith, h))
 byte_flag Either v small h = tt
 
-pub negative_is : (laws : KnownLaws) (width : Width) (set : Form) (v : ℕ) → IsNormal (modulus width) set → Has (modulus width) set v → IsFlag (negative_of width set) (is_negative width v)
+pub negative_is : (laws : KnownLaws) (width : Width) (set : Form) (v : ℕ) → IsNormal (modulus width) set
+    → Has (modulus width) set v → IsFlag (negative_of width set) (is_negative width v)
 negative_is laws Word set v normal has =
     word_flag (negative_of Word set) v (laws.sets.below 65536 v set normal has)
     (negative_bit (known_bits 16 set) v 15 (laws.bits.known_long 16 set) (laws.bits.known 16 v set normal has))
@@ -82,7 +83,8 @@ negative_is laws Byte set v normal has =
     byte_flag (negative_of Byte set) v (laws.sets.below 256 v set normal has)
     (negative_bit (known_bits 8 set) v 7 (laws.bits.known_long 8 set) (laws.bits.known 8 v set normal has))
 
-pub shown_hold : (laws : KnownLaws) (width : Width) (set : Form) (v : ℕ) (c o : Tri) (carry overflow : Bool) → IsNormal (modulus width) set → Has (modulus width) set v
+pub shown_hold : (laws : KnownLaws) (width : Width) (set : Form) (v : ℕ) (c o : Tri) (carry overflow : Bool)
+    → IsNormal (modulus width) set → Has (modulus width) set v
     → IsFlag c carry → IsFlag o overflow → AreFlags (shown_flags width set c o) (flags_of width v carry overflow)
 shown_hold laws width set v c o carry overflow normal has first last = record {
   carry = first;
@@ -91,7 +93,8 @@ shown_hold laws width set v c o carry overflow normal has first last = record {
   overflow = last;
 }
 
-pub shown_logic_hold : (laws : KnownLaws) (width : Width) (set : Form) (v : ℕ) (o : Tri) (overflow : Bool) → IsNormal (modulus width) set → Has (modulus width) set v
+pub shown_logic_hold : (laws : KnownLaws) (width : Width) (set : Form) (v : ℕ) (o : Tri) (overflow : Bool)
+    → IsNormal (modulus width) set → Has (modulus width) set v
     → IsFlag o overflow → AreFlags (shown_logic width set o) (flags_of width v (not (v == 0)) overflow)
 shown_logic_hold laws width set v o overflow normal has last =
     shown_hold laws width set v (tri_not (zero_of width set)) o (not (v == 0)) overflow normal has
@@ -99,7 +102,8 @@ shown_logic_hold laws width set v o overflow normal has last =
 
 -- ALL COMBINATIONS
 
-pub all_hold : (laws : KnownLaws) (m : ℕ) (flags : ℕ → ℕ → ℕ → Flags) (a b c : Form) (x y z : ℕ) → Has m a x → Has m b y → Has m c z → AreFlags (all_agree m flags a b c) (flags x y z)
+pub all_hold : (laws : KnownLaws) (m : ℕ) (flags : ℕ → ℕ → ℕ → Flags) (a b c : Form) (x y z : ℕ) → Has m a x → Has m b y
+    → Has m c z → AreFlags (all_agree m flags a b c) (flags x y z)
 all_hold laws m flags a b c x y z h k l = record {
   carry = laws.bits.flags m x y z (λ x y z. (flags x y z).carry) a b c h k l;
   zero = laws.bits.flags m x y z (λ x y z. (flags x y z).zero) a b c h k l;
@@ -108,7 +112,8 @@ all_hold laws m flags a b c x y z h k l = record {
 }
 
 -- flags that one walk tells
-pub told : (m : ℕ) (flags : ℕ → ℕ → ℕ → Flags) (a b c : Form) (known : FourKnown) → ((place : Place) → known_at place known ≡ agreed m (λ x y z. flag_of place (flags x y z)) a b c)
+pub told : (m : ℕ) (flags : ℕ → ℕ → ℕ → Flags) (a b c : Form) (known : FourKnown)
+    → ((place : Place) → known_at place known ≡ agreed m (λ x y z. flag_of place (flags x y z)) a b c)
     → ◌≡◌ {A = FlagBits} (record { carry = known.first; zero = known.second; negative = known.third; overflow = known.fourth }) (all_agree m flags a b c)
 told m flags a b c known same =
     let carry : known.first ≡ agreed m (λ x y z. (flags x y z).carry) a b c = same First in
@@ -117,13 +122,15 @@ told m flags a b c known same =
     let overflow : known.fourth ≡ agreed m (λ x y z. (flags x y z).overflow) a b c = same Fourth in
     rw (carry, zero, negative, overflow) refl
 
-pub either_hold : (laws : KnownLaws) (m : ℕ) (flags : ℕ → ℕ → ℕ → Flags) (a b c : Form) (x y z : ℕ) (shown : FlagBits) → Has m a x → Has m b y → Has m c z
+pub either_hold : (laws : KnownLaws) (m : ℕ) (flags : ℕ → ℕ → ℕ → Flags) (a b c : Form) (x y z : ℕ) (shown : FlagBits)
+    → Has m a x → Has m b y → Has m c z
     → AreFlags shown (flags x y z) → AreFlags (flags_or m flags a b c shown) (flags x y z)
 either_hold laws m flags a b c x y z shown h k l holds =
     cond_both (is_few m a b c) (all_agree m flags a b c) shown (λ bits. AreFlags bits (flags x y z)) (λ e. all_hold laws m flags a b c x y z h k l) (λ e. holds)
 
 -- V is free: the other flags hold whatever it is
-pub free_hold : (width : Width) (bits : FlagBits) (v : ℕ) (carry before overflow : Bool) → AreFlags bits (flags_of width v carry before) → AreFlags (free_overflow bits) (flags_of width v carry overflow)
+pub free_hold : (width : Width) (bits : FlagBits) (v : ℕ) (carry before overflow : Bool)
+    → AreFlags bits (flags_of width v carry before) → AreFlags (free_overflow bits) (flags_of width v carry overflow)
 free_hold width bits v carry before overflow h = record { carry = h.carry; zero = h.zero; negative = h.negative; overflow = tt }
 
 pub none_hold : (flags : Flags) → AreFlags no_flags flags

@@ -43,7 +43,8 @@ use Rattle.msp430_results.proofs.FlagLemmas.{some_numbers, shown_hold, shown_log
 -- SUMS
 
 -- the flags of a sum, over all combinations or as the result shows them
-sum_row : (laws : KnownLaws) (width : Width) (set : Form) (flags : ℕ → ℕ → ℕ → Flags) (a b c : Form) (x y z p q : ℕ) → IsResult (modulus width) set ((x + p + q) % modulus width)
+sum_row : (laws : KnownLaws) (width : Width) (set : Form) (flags : ℕ → ℕ → ℕ → Flags) (a b c : Form) (x y z p q : ℕ)
+    → IsResult (modulus width) set ((x + p + q) % modulus width)
     → flags x y z ≡ flags_in (sum width x p q) → Has (modulus width) a x → Has (modulus width) b y → Has (modulus width) c z
     → HoldsOfMade width (sum_made width set flags a b c) (sum width x p q)
 unfolding sum
@@ -73,7 +74,8 @@ sub_row laws width s d a b h k =
     (single_is laws m 0 (omega (arith, some_numbers width))).has
 
 -- ADD of a register to itself
-pub twice_row : (laws : KnownLaws) (width : Width) (x : ℕ) (set : Form) → IsResult (modulus width) set x → HoldsOfMade width (twice_flags width set) (sum width x x 0)
+pub twice_row : (laws : KnownLaws) (width : Width) (x : ℕ) (set : Form) → IsResult (modulus width) set x
+    → HoldsOfMade width (twice_flags width set) (sum width x x 0)
 unfolding sum
 twice_row laws width x (Values xs) is =
     let m = modulus width in
@@ -97,12 +99,14 @@ twice_row laws width x (Run p) is =
 
 -- LOGIC
 
-logic_is : (laws : KnownLaws) (width : Width) (logic : Logic) (x y : ℕ) (a b : Form) → IsResult (modulus width) a x → IsResult (modulus width) b y
+logic_is : (laws : KnownLaws) (width : Width) (logic : Logic) (x y : ℕ) (a b : Form) → IsResult (modulus width) a x
+    → IsResult (modulus width) b y
     → IsResult (modulus width) (logic_set (bits_of width) logic a b) (logic_of logic x y)
 logic_is laws Word logic x y a b h k = record { normal = laws.bits.logic_normal 16 logic a b h.normal k.normal; has = laws.bits.logic 16 x y logic a b h.normal k.normal h.has k.has }
 logic_is laws Byte logic x y a b h k = record { normal = laws.bits.logic_normal 8 logic a b h.normal k.normal; has = laws.bits.logic 8 x y logic a b h.normal k.normal h.has k.has }
 
-logic_row : (laws : KnownLaws) (width : Width) (set : Form) (flags : ℕ → ℕ → ℕ → Flags) (a b : Form) (x y v : ℕ) (o : Tri) (overflow : Bool) → IsResult (modulus width) set v
+logic_row : (laws : KnownLaws) (width : Width) (set : Form) (flags : ℕ → ℕ → ℕ → Flags) (a b : Form) (x y v : ℕ) (o : Tri) (overflow : Bool)
+    → IsResult (modulus width) set v
     → flags x y 0 ≡ flags_of width v (not (v == 0)) overflow → IsFlag o overflow → Has (modulus width) a x → Has (modulus width) b y
     → HoldsOfMade width (logic_made width set flags a b o) (made width v (not (v == 0)) overflow)
 logic_row laws width set flags a b x y v o overflow is same last h k =
@@ -119,7 +123,8 @@ logic_row laws width set flags a b x y v o overflow is same last h k =
 -- BIC
 
 -- numbers with the bits of two lists as long: the bits of x AND NOT y
-clear_agrees : (laws : KnownLaws) (as' bs : List Tri) (x y top : ℕ) → length as' ≡ length bs → top + 1 ≡ 2 ^ length bs → Agrees as' x → Agrees bs y → y ≤ top
+clear_agrees : (laws : KnownLaws) (as' bs : List Tri) (x y top : ℕ) → length as' ≡ length bs → top + 1 ≡ 2 ^ length bs
+    → Agrees as' x → Agrees bs y → y ≤ top
     → Agrees (each_with tri_and as' (map tri_not bs)) (bit_and x (top - y))
 clear_agrees laws [] [] x y top long whole h k le =
     let none : x ≡ 0 = h in let under = and_le_l x (top - y) in omega (arith, none, under)
@@ -164,7 +169,8 @@ clear_bits laws w x y top a b whole h k =
           (laws.bits.known w x a h.normal h.has) (laws.bits.known w y b k.normal k.has) (omega (arith, small, whole)));
     }
 
-clear_stays : (laws : KnownLaws) (width : Width) (x y z : ℕ) → x < modulus width → y < modulus width → z < modulus width → clear_answer width x y z < modulus width
+clear_stays : (laws : KnownLaws) (width : Width) (x y z : ℕ) → x < modulus width → y < modulus width → z < modulus width
+    → clear_answer width x y z < modulus width
 clear_stays laws width x y z h k l = let under = and_le_l x (complement width y) in omega (arith, under, h)
 
 clear_is : (laws : KnownLaws) (width : Width) (x y : ℕ) (a b : Form) → IsResult (modulus width) a x → IsResult (modulus width) b y
@@ -184,7 +190,8 @@ all_at p (x ∷ xs) v (suc k) lt is all = all_at p xs v k (omega arith) is (and_
 decimal_member : (digits v : ℕ) (set : Form) → Has (16 ^ digits) set v → are_decimal digits set ≡ true → is_decimal digits v ≡ true
 decimal_member digits v set (k, lt, is) all = all_at (is_decimal digits) (members (16 ^ digits) set) v k lt is all
 
-both_decimal : (digits x y : ℕ) (a b : Form) → Has (16 ^ digits) a x → Has (16 ^ digits) b y → (are_decimal digits a && are_decimal digits b) ≡ true → (is_decimal digits x && is_decimal digits y) ≡ true
+both_decimal : (digits x y : ℕ) (a b : Form) → Has (16 ^ digits) a x → Has (16 ^ digits) b y
+    → (are_decimal digits a && are_decimal digits b) ≡ true → (is_decimal digits x && is_decimal digits y) ≡ true
 both_decimal digits x y a b h k all = let parts = and_parts (are_decimal digits a) (are_decimal digits b) all in
     and_from (is_decimal digits x) (is_decimal digits y) (decimal_member digits x a h parts.0) (decimal_member digits y b k parts.1)
 
@@ -192,10 +199,13 @@ both_decimal digits x y a b h k all = let parts = and_parts (are_decimal digits 
 record DecimalSet (width : Width) (set : Form) (x y z : ℕ) (a b : Form) : Type 0 where
   normal : IsNormal (modulus width) set
   has : Has (modulus width) set (decimal_sum (digits_of width) x y z)
-  free : (is_decimal (digits_of width) x && is_decimal (digits_of width) y) ≡ false → (v : ℕ) → v < modulus width → Has (modulus width) set v
-  both : (are_decimal (digits_of width) a && are_decimal (digits_of width) b) ≡ true → (is_decimal (digits_of width) x && is_decimal (digits_of width) y) ≡ true
+  free : (is_decimal (digits_of width) x && is_decimal (digits_of width) y) ≡ false → (v : ℕ) → v < modulus width
+      → Has (modulus width) set v
+  both : (are_decimal (digits_of width) a && are_decimal (digits_of width) b) ≡ true
+      → (is_decimal (digits_of width) x && is_decimal (digits_of width) y) ≡ true
 
-decimal_is : (laws : KnownLaws) (width : Width) (x y z : ℕ) (a b : Form) (carry : Tri) → IsResult (modulus width) a x → IsResult (modulus width) b y → IsBit carry z
+decimal_is : (laws : KnownLaws) (width : Width) (x y z : ℕ) (a b : Form) (carry : Tri) → IsResult (modulus width) a x
+    → IsResult (modulus width) b y → IsBit carry z
     → DecimalSet width (decimal_add_set (digits_of width) a b carry) x y z a b
 decimal_is laws Word x y z a b carry h k bit = record {
   normal = laws.bits.decimal_normal 4 a b carry h.normal k.normal;
@@ -210,7 +220,8 @@ decimal_is laws Byte x y z a b carry h k bit = record {
   both = both_decimal 2 x y a b h.has k.has;
 }
 
-decimal_row : (laws : KnownLaws) (width : Width) (x y z : ℕ) (a b : Form) (carry : Tri) (made_so : Made) → IsResult (modulus width) a x → IsResult (modulus width) b y → IsBit carry z
+decimal_row : (laws : KnownLaws) (width : Width) (x y z : ℕ) (a b : Form) (carry : Tri) (made_so : Made)
+    → IsResult (modulus width) a x → IsResult (modulus width) b y → IsBit carry z
     → MayMakeDecimal width x y z made_so → HoldsOfMade width (decimal_made width a b carry) made_so
 decimal_row laws width x y z a b carry made_so h k bit (Decimal decimal overflow e) =
     let m = modulus width in
@@ -245,7 +256,8 @@ plain_sum : (m x y : ℕ) → (x + y + 0) % m ≡ (x + y) % m
 plain_sum m x y = ap (λ n. n % m) (omega arith)
 
 -- Where the sets have the values, the set of results has the result, and the flags hold.
-pub double_holds : (laws : KnownLaws) (done : Operation) (width : Width) (s d carry : ℕ) (a b : Form) (c : Tri) (made_so : Made) → IsResult (modulus width) a s → IsResult (modulus width) b d → IsBit c carry
+pub double_holds : (laws : KnownLaws) (done : Operation) (width : Width) (s d carry : ℕ) (a b : Form) (c : Tri) (made_so : Made)
+    → IsResult (modulus width) a s → IsResult (modulus width) b d → IsBit c carry
     → MayMake done width s d carry made_so → HoldsOfMade width (double_made done width a b c) made_so
 double_holds laws operation.Mov width s d carry a b c made_so h k bit may =
     subst (HoldsOfMade width (a, None)) (same_Some (s, None) made_so may) (record { normal = h.normal; result = h.has; flags = tt })
@@ -288,12 +300,14 @@ double_holds laws operation.And width s d carry a b c made_so h k bit may =
 
 -- ONE OPERAND
 
-shift_is : (laws : KnownLaws) (width : Width) (x bit : ℕ) (set : Form) (top : Top) → IsResult (modulus width) set x → IsTop (top_place width) top x bit
+shift_is : (laws : KnownLaws) (width : Width) (x bit : ℕ) (set : Form) (top : Top) → IsResult (modulus width) set x
+    → IsTop (top_place width) top x bit
     → IsResult (modulus width) (shift_set (top_place width) set top) (shifted_right (top_place width) x bit)
 shift_is laws Word x bit set top h is = record { normal = laws.bits.shift_normal 15 set top h.normal; has = laws.bits.shift 15 x bit set top h.normal h.has is }
 shift_is laws Byte x bit set top h is = record { normal = laws.bits.shift_normal 7 set top h.normal; has = laws.bits.shift 7 x bit set top h.normal h.has is }
 
-rotated_row : (laws : KnownLaws) (width : Width) (x carry : ℕ) (set : Form) (c : Tri) (made_so : Made) → IsResult (modulus width) set x → IsBit c carry
+rotated_row : (laws : KnownLaws) (width : Width) (x carry : ℕ) (set : Form) (c : Tri) (made_so : Made)
+    → IsResult (modulus width) set x → IsBit c carry
     → MayMakeSingle Rrc width x carry made_so → HoldsOfMade width (single_made Rrc width set c) made_so
 rotated_row laws width x carry set c made_so h bit (overflow, e) =
     let m = modulus width in
@@ -329,7 +343,8 @@ halved_row laws width x carry set c made_so h may =
     }
 
 -- Where the set has the value, the set of results has the result, and the flags hold.
-pub single_holds : (laws : KnownLaws) (done : SingleOperation) (width : Width) (x carry : ℕ) (set : Form) (c : Tri) (made_so : Made) → HasWidth done width → IsResult (modulus width) set x → IsBit c carry
+pub single_holds : (laws : KnownLaws) (done : SingleOperation) (width : Width) (x carry : ℕ) (set : Form) (c : Tri) (made_so : Made)
+    → HasWidth done width → IsResult (modulus width) set x → IsBit c carry
     → MayMakeSingle done width x carry made_so → HoldsOfMade width (single_made done width set c) made_so
 single_holds laws Rrc width x carry set c made_so fits h bit may = rotated_row laws width x carry set c made_so h bit may
 single_holds laws Swpb Word x carry set c made_so fits h bit may =
@@ -355,7 +370,8 @@ member : (laws : KnownLaws) (m : ℕ) (set : Form) → IsNormal m set → (v : �
 member laws m set normal = let some = laws.sets.some m set normal in
     (get_or (members m set) 0 0, record { normal = normal; has = Contains-get_or (members m set) 0 0 (omega (arith, some)) })
 
-rows_form : (laws : KnownLaws) (done : Operation) (width : Width) (s d carry : ℕ) (a b : Form) (c : Tri) → IsResult (modulus width) a s → IsResult (modulus width) b d → IsBit c carry
+rows_form : (laws : KnownLaws) (done : Operation) (width : Width) (s d carry : ℕ) (a b : Form) (c : Tri)
+    → IsResult (modulus width) a s → IsResult (modulus width) b d → IsBit c carry
     → IsNormal (modulus width) (double_made done width a b c).0
 rows_form laws operation.Dadd width s d carry a b c h k bit = (decimal_is laws width d s carry b a c k h bit).normal
 rows_form laws operation.Mov width s d carry a b c h k bit = h.normal
@@ -370,7 +386,9 @@ rows_form laws operation.Bis width s d carry a b c h k bit = (logic_is laws widt
 rows_form laws operation.Xor width s d carry a b c h k bit = (logic_is laws width Xor d s b a k h).normal
 rows_form laws operation.And width s d carry a b c h k bit = (logic_is laws width And d s b a k h).normal
 
-pub double_form : (laws : KnownLaws) (done : Operation) (width : Width) (a b : Form) (c : Tri) → IsNormal (modulus width) a → IsNormal (modulus width) b → IsNormal (modulus width) (double_made done width a b c).0
+pub double_form : (laws : KnownLaws) (done : Operation) (width : Width) (a b : Form) (c : Tri)
+    → IsNormal (modulus width) a → IsNormal (modulus width) b
+    → IsNormal (modulus width) (double_made done width a b c).0
 double_form laws done width a b c n k =
     let m = modulus width in
     let (s, h) = member laws m a n in
@@ -378,10 +396,12 @@ double_form laws done width a b c n k =
     let (carry, bit) = laws.bits.bit_some c in
     rows_form laws done width s d carry a b c h l bit
 
-pub twice_form : (laws : KnownLaws) (width : Width) (a : Form) → IsNormal (modulus width) a → IsNormal (modulus width) (twice_flags width a).0
+pub twice_form : (laws : KnownLaws) (width : Width) (a : Form) → IsNormal (modulus width) a
+    → IsNormal (modulus width) (twice_flags width a).0
 twice_form laws width a n = let (x, h) = member laws (modulus width) a n in (twice_row laws width x a h).normal
 
-pub single_form : (laws : KnownLaws) (done : SingleOperation) (width : Width) (a : Form) (c : Tri) → HasWidth done width → IsNormal (modulus width) a → IsNormal (modulus width) (single_made done width a c).0
+pub single_form : (laws : KnownLaws) (done : SingleOperation) (width : Width) (a : Form) (c : Tri) → HasWidth done width
+    → IsNormal (modulus width) a → IsNormal (modulus width) (single_made done width a c).0
 single_form laws Rrc width a c fits n =
     let (x, h) = member laws (modulus width) a n in
     let (carry, bit) = laws.bits.bit_some c in

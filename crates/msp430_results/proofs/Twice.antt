@@ -13,8 +13,10 @@ use Rattle.msp430_results.specs.FlagSets.{all_agree, shown_flags, MadeSet}
 use Rattle.msp430_results.specs.Results.{twice_flags}
 use Rattle.msp430_results.specs.Rules.{flags_by}
 
-pub twice_list : (width : Width) (set sums none : Form) (xs : List ℕ) (flags : FlagBits) → set ≡ Values xs → sums ≡ twice (modulus width) set → none ≡ single 0
-    → flags ≡ all_agree (modulus width) (flags_by Twice width) set none (single 0) → ◌≡◌ {A = MadeSet} (sums, Some flags) (twice_flags width set)
+pub twice_list : (width : Width) (set sums none : Form) (xs : List ℕ) (flags : FlagBits) → set ≡ Values xs
+    → sums ≡ twice (modulus width) set → none ≡ single 0
+    → flags ≡ all_agree (modulus width) (flags_by Twice width) set none (single 0)
+    → ◌≡◌ {A = MadeSet} (sums, Some flags) (twice_flags width set)
 twice_list width (Values ys) sums none xs flags is p q r = rw (p, r, q) refl
 twice_list width (Run p) sums none xs flags is h q r = absurd (cc)
 

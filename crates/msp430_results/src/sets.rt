@@ -95,7 +95,8 @@ pub(crate) trait Sets: Copy {
     /// What is known of each of the flags of an operation, over at most 256 combinations.
     fn all_agreed<F: AllFlags>(operation: &F, first: &Self, second: &Self, carry: Tri) -> FourKnown
         requires { F.modulus operation.now ≡ modulus width }
-        ensures { (place : Place) → known_at place result ≡ flags.agreed (modulus width) (F.value operation.now place) (form first.now) (form second.now) (sets.chosen carry) };
+        ensures { (place : Place)
+            → known_at place result ≡ flags.agreed (modulus width) (F.value operation.now place) (form first.now) (form second.now) (sets.chosen carry) };
 
     /// Whether numbers are at least those of another set, over at most 256 combinations.
     fn at_least(&self, other: &Self) -> Tri

@@ -27,7 +27,8 @@ use Rattle.plain_lemmas.specs.AnyOf.{any_from}
 -- COVER
 
 -- one of R4 to R15
-word_stands : (laws : MemoryLaws) (device : Device) (framed : Bool) (a exit : Known) (f : ChipState) (first : Option ChipState) (register v : ℕ) → IsSuspended device framed a f first → IsKnown device.ram.lo device.ram.hi true exit
+word_stands : (laws : MemoryLaws) (device : Device) (framed : Bool) (a exit : Known) (f : ChipState) (first : Option ChipState) (register v : ℕ)
+    → IsSuspended device framed a f first → IsKnown device.ram.lo device.ram.hi true exit
     → register_of f 0 < 65536 → 3 < register → register < 16 → HoldsOfWord (Some (suspended_of f)) (word_of exit register) v
     → HoldsOfWord (option_map suspended_of first) (get_or (map (resumed_word (place_word a (register_of f 0))) exit.registers) (register - 4) (unknown 2)) v
 word_stands laws device framed a exit f first register v is form small above below holds =
@@ -39,8 +40,10 @@ word_stands laws device framed a exit f first register v is form small above bel
     (laws.known.frames.word places (suspended_of f) (option_map suspended_of first) (word_of exit register) v (λ place. (place_form laws device.ram.lo device.ram.hi framed a pc small is.form place).normal)
     (has_masks (word_of exit register).entry own.entry) (relation_tells laws device framed a f first is (word_of exit register).entry own.entry) holds)
 
-parts_stand : (laws : MemoryLaws) (device : Device) (framed : Bool) (a exit : Known) (f t : ChipState) (first : Option ChipState) (sp : ℕ) → device.ram.hi < 65536 → (framed ≡ false → first ≡ None)
-    → IsSuspended device framed a f first → IsKnown device.ram.lo device.ram.hi true exit → IsChipState device t → HoldsOfParts device exit (Some f) t.registers t.ram
+parts_stand : (laws : MemoryLaws) (device : Device) (framed : Bool) (a exit : Known) (f t : ChipState) (first : Option ChipState) (sp : ℕ)
+    → device.ram.hi < 65536 → (framed ≡ false → first ≡ None)
+    → IsSuspended device framed a f first → IsKnown device.ram.lo device.ram.hi true exit → IsChipState device t
+    → HoldsOfParts device exit (Some f) t.registers t.ram
     → register_of f 0 < 65536 → register_of t 1 ≡ sp → sp < 65536
     → HoldsOfParts device (resumed_known framed a (register_of f 0) sp exit) first t.registers t.ram
 unfolding resumed_known
@@ -61,7 +64,8 @@ parts_stand laws device framed a exit f t first sp below base is form state left
       untouched = untouched_behind laws device framed a.touched exit.touched f t.ram first base is.parts.untouched left.untouched;
     }
 
-pub covers : (laws : MemoryLaws) (device : Device) (framed : Bool) (a exit : Known) (f t : ChipState) (first : Option ChipState) (vector sp level : ℕ) → device.ram.hi < 65536
+pub covers : (laws : MemoryLaws) (device : Device) (framed : Bool) (a exit : Known) (f t : ChipState) (first : Option ChipState) (vector sp level : ℕ)
+    → device.ram.hi < 65536
     → (framed ≡ false → first ≡ None) → IsKnown device.ram.lo device.ram.hi framed a → IsKnown device.ram.lo device.ram.hi true exit
     → HoldsOf device a f first → HoldsOf device exit t (Some f) → GoesOn (Irq vector (Some sp) level) t (Some f)
     → HoldsOf device (resumed_known framed a (register_of f 0) sp exit) t first
@@ -77,7 +81,8 @@ covers laws device framed a exit f t first vector sp level below base form exit_
       parts = parts_stand laws device framed a exit f t first sp below base is exit_form left.state left.parts small goes.1 sp_small;
     }
 
-pub has_pointer : (device : Device) (a : Known) (f : ChipState) (first : Option ChipState) (sp : ℕ) → HoldsOf device a f first → CameAt (Some sp) f → is_in 65536 a.sp sp ≡ true
+pub has_pointer : (device : Device) (a : Known) (f : ChipState) (first : Option ChipState) (sp : ℕ)
+    → HoldsOf device a f first → CameAt (Some sp) f → is_in 65536 a.sp sp ≡ true
 has_pointer device a f first sp holds came = any_from sp (members 65536 a.sp) (subst (Has 65536 a.sp) came holds.parts.sp)
 
 -- FORM
@@ -86,7 +91,8 @@ single_even : (sp : ℕ) → sp % 2 ≡ 0 → HasRemainder 65536 2 0 (single sp)
 single_even sp even v (zero, lt, is) = let same : sp ≡ v = is in subst (λ n. n % 2 ≡ 0) same even
 single_even sp even v (suc k, lt, is) = absurd (omega (arith, lt))
 
-pub in_form : (laws : MemoryLaws) (lo hi : ℕ) (framed : Bool) (a exit : Known) (pc sp : ℕ) → hi < 65536 → IsKnown lo hi framed a → IsKnown lo hi true exit
+pub in_form : (laws : MemoryLaws) (lo hi : ℕ) (framed : Bool) (a exit : Known) (pc sp : ℕ) → hi < 65536
+    → IsKnown lo hi framed a → IsKnown lo hi true exit
     → IsEvenWord pc → IsEvenWord sp → IsKnown lo hi framed (resumed_known framed a pc sp exit)
 unfolding resumed_known
 in_form laws lo hi framed a exit pc sp below form exit_form pc_so sp_so =

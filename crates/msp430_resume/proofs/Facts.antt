@@ -28,8 +28,10 @@ use Rattle.msp430_resume.proofs.HeldWords.{IsSuspended, reads_itself, reads_stat
 
 -- SR
 
-by_holds : (laws : MemoryLaws) (device : Device) (framed : Bool) (a : Known) (f : ChipState) (first : Option ChipState) (exit : Status) (entry : Option Entry) (sr : ℕ) → IsSuspended device framed a f first
-    → IsStatusRelation true entry → sr < 512 → Agrees exit.bits sr → IsFromEntry (Some (suspended_of f)) entry sr → HoldsOfStatus (option_map suspended_of first) (status_by a.status exit entry) sr
+by_holds : (laws : MemoryLaws) (device : Device) (framed : Bool) (a : Known) (f : ChipState) (first : Option ChipState) (exit : Status) (entry : Option Entry) (sr : ℕ)
+    → IsSuspended device framed a f first
+    → IsStatusRelation true entry → sr < 512 → Agrees exit.bits sr → IsFromEntry (Some (suspended_of f)) entry sr
+    → HoldsOfStatus (option_map suspended_of first) (status_by a.status exit entry) sr
 by_holds laws device framed a f first exit None sr is form small agrees from = record { bits = agrees; entry = tt }
 by_holds laws device framed a f first exit (Some entry) sr is (place, and_small, and_high, or_small) small agrees (word, reads, made) =
     let status_reads : Reads (suspended_of f) 2 word = subst (λ p. Reads (suspended_of f) p word) place reads in
@@ -49,12 +51,15 @@ by_holds laws device framed a f first exit (Some entry) sr is (place, and_small,
           (laws.known.values.entries.or under (option_map (entry_and entry.and) a.status.entry) (bit_and word entry.and) entry.or (laws.known.values.entries.and under a.status.entry word entry.and held.1));
     }
 
-pub status_holds : (laws : MemoryLaws) (device : Device) (framed : Bool) (a : Known) (f : ChipState) (first : Option ChipState) (exit : Status) (sr : ℕ) → IsSuspended device framed a f first
-    → IsStatusRelation true exit.entry → sr < 512 → HoldsOfStatus (Some (suspended_of f)) exit sr → HoldsOfStatus (option_map suspended_of first) (status_resumed a.status exit) sr
+pub status_holds : (laws : MemoryLaws) (device : Device) (framed : Bool) (a : Known) (f : ChipState) (first : Option ChipState) (exit : Status) (sr : ℕ)
+    → IsSuspended device framed a f first
+    → IsStatusRelation true exit.entry → sr < 512 → HoldsOfStatus (Some (suspended_of f)) exit sr
+    → HoldsOfStatus (option_map suspended_of first) (status_resumed a.status exit) sr
 status_holds laws device framed a f first exit sr is form small holds = by_holds laws device framed a f first exit exit.entry sr is form small holds.bits holds.entry
 
 -- its form
-masked_form : (framed : Bool) (entry : Entry) (held : Option Entry) → IsStatusRelation true (Some entry) → IsStatusRelation framed held → IsStatusRelation framed (masked_entry entry held)
+masked_form : (framed : Bool) (entry : Entry) (held : Option Entry) → IsStatusRelation true (Some entry)
+    → IsStatusRelation framed held → IsStatusRelation framed (masked_entry entry held)
 masked_form framed entry None masks form = no_status_relation framed
 masked_form false entry (Some held) masks form = form
 masked_form true entry (Some held) (place, and_small, and_high, or_small) (held_place, held_and, held_high, held_or) =
@@ -63,12 +68,14 @@ masked_form true entry (Some held) (place, and_small, and_high, or_small) (held_
     let or_less = and_le_l held.or entry.and in
     (held_place, omega (arith, less, held_and), high, or_lt 9 (bit_and held.or entry.and) entry.or (omega (arith, or_less, held_or)) or_small)
 
-by_form : (framed : Bool) (held exit : Status) (entry : Option Entry) → length held.bits ≡ 9 → length exit.bits ≡ 9 → IsStatusRelation framed held.entry → IsStatusRelation true entry
+by_form : (framed : Bool) (held exit : Status) (entry : Option Entry) → length held.bits ≡ 9 → length exit.bits ≡ 9
+    → IsStatusRelation framed held.entry → IsStatusRelation true entry
     → (length (status_by held exit entry).bits ≡ 9) × IsStatusRelation framed (status_by held exit entry).entry
 by_form framed held exit None long exit_long form masks = (exit_long, no_status_relation framed)
 by_form framed held exit (Some entry) long exit_long form masks = (masked_length entry.and entry.or held.bits ∙ long, masked_form framed entry held.entry masks form)
 
-pub status_form : (framed : Bool) (held exit : Status) → length held.bits ≡ 9 → length exit.bits ≡ 9 → IsStatusRelation framed held.entry → IsStatusRelation true exit.entry
+pub status_form : (framed : Bool) (held exit : Status) → length held.bits ≡ 9 → length exit.bits ≡ 9
+    → IsStatusRelation framed held.entry → IsStatusRelation true exit.entry
     → (length (status_resumed held exit).bits ≡ 9) × IsStatusRelation framed (status_resumed held exit).entry
 status_form framed held exit = by_form framed held exit exit.entry
 
@@ -78,7 +85,8 @@ word_is : (word v : ℕ) → word < 65536 → v ≡ word % 65536 → v ≡ word
 word_is word v below is = is ∙ word_alone word below
 
 -- a value that is what a place held is a number that the place may be read as
-itself_is : (f : ChipState) (place v : ℕ) (entry : Option Entry) → is_itself 65535 place entry ≡ true → IsFromEntry (Some (suspended_of f)) entry v → Reads (suspended_of f) place v
+itself_is : (f : ChipState) (place v : ℕ) (entry : Option Entry) → is_itself 65535 place entry ≡ true
+    → IsFromEntry (Some (suspended_of f)) entry v → Reads (suspended_of f) place v
 itself_is f place v entry is from =
     let (word, reads, made) = itself_read 16 (suspended_of f) place v entry is from in
     subst (Reads (suspended_of f) place) (sym (word_is word v reads.0 made)) reads
@@ -92,7 +100,8 @@ not_status register lt = ne_eqb register 2 (past_status register lt)
 abbrev SaysOfFlags : FlagFact → (value sr : ℕ) → Type 0
 SaysOfFlags fact value sr = HasFlagsOf fact.width ((value + fact.added) % modulus fact.width) fact.compared sr × (fact.width ≡ Byte → value < 256)
 
-pub fact_holds : (device : Device) (exit : Known) (f t : ChipState) (fact : Option FlagFact) → IsChipState device f → IsChipState device t → IsFact fact → HoldsOfFact fact f.registers
+pub fact_holds : (device : Device) (exit : Known) (f t : ChipState) (fact : Option FlagFact) → IsChipState device f
+    → IsChipState device t → IsFact fact → HoldsOfFact fact f.registers
     → IsFromEntry (Some (suspended_of f)) exit.status.entry (register_of t 2)
     → ((register : ℕ) → 3 < register → register < 16 → IsFromEntry (Some (suspended_of f)) (word_of exit register).entry (register_of t register))
     → HoldsOfFact (fact_resumed exit fact) t.registers

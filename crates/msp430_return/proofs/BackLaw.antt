@@ -28,7 +28,8 @@ use Rattle.msp430_return.specs.Return.{counter_place, goes_back, is_counter, lef
 use Rattle.msp430_return.proofs.ReturnLaw.{counter_left, counter_read, stack_left}
 
 -- a word that came from PC without a mask is PC
-counter_is : (f : ChipState) (entry : Option Entry) (v : ℕ) → register_of f 0 < 65536 → is_counter entry ≡ true → IsFromEntry (Some (suspended_of f)) entry v
+counter_is : (f : ChipState) (entry : Option Entry) (v : ℕ) → register_of f 0 < 65536 → is_counter entry ≡ true
+    → IsFromEntry (Some (suspended_of f)) entry v
     → v ≡ register_of f 0
 counter_is f None v small is holds = absurd (false≢true is)
 counter_is f (Some entry) v small is (word, reads, v_is) =
@@ -44,7 +45,8 @@ counter_is f (Some entry) v small is (word, reads, v_is) =
 
 goes_on : (laws : MemoryLaws) {device : Device} {framed : Bool} {a : Known} {s : ChipState} (t f : ChipState) (sp : ℕ) {outcome : Outcome ChipState}
     → IsUnder device framed a s (Some f) → IsChipState device f → register_of f 1 ≡ sp
-    → is_within 65536 a.sp (single ((sp + 65532) % 65536)) ≡ true → is_counter (read_known device a Words (counter_place device a.sp)).entry ≡ true
+    → is_within 65536 a.sp (single ((sp + 65532) % 65536)) ≡ true
+    → is_counter (read_known device a Words (counter_place device a.sp)).entry ≡ true
     → (may : MayReturn device s outcome)
     → t.registers ≡ (left_of_return s may.status may.target).registers → (register_of t 0 ≡ register_of f 0) × (register_of t 1 ≡ sp)
 goes_on laws {device} {a} {s} t f sp under suspended came at counter may same =
@@ -71,7 +73,8 @@ back_law laws device framed a s t (Some f) (Irq vector (Some sp) level) outcome 
     let both = and_parts (is_within 65536 a.sp (single ((sp + 65532) % 65536))) (is_counter (read_known device a Words (counter_place device a.sp)).entry) back in
     goes_on laws t f sp under under.holds.suspended stands both.0 both.1 may same
 
-pub back_base : (device : Device) (frame : Frame) (a : Known) → goes_back device frame a ≡ true → (is_interrupt frame ≡ true) × HasEntry frame
+pub back_base : (device : Device) (frame : Frame) (a : Known) → goes_back device frame a ≡ true
+    → (is_interrupt frame ≡ true) × HasEntry frame
 unfolding goes_back
 back_base device Base a back = absurd (false≢true back)
 back_base device (Irq vector None level) a back = absurd (false≢true back)

@@ -39,16 +39,19 @@ above_normal : (laws : MemoryLaws) {lo hi : ℕ} {framed : Bool} {a : Known} →
 above_normal laws {a} form = (sum_even laws.known a.sp 2 (omega arith) refl form.sp).normal
 
 -- SP and a number
-sp_raised : (laws : MemoryLaws) {device : Device} {framed : Bool} {a : Known} {s : ChipState} {first : Option ChipState} → IsUnder device framed a s first → (n : ℕ) → n < 65536
+sp_raised : (laws : MemoryLaws) {device : Device} {framed : Bool} {a : Known} {s : ChipState} {first : Option ChipState}
+    → IsUnder device framed a s first → (n : ℕ) → n < 65536
     → Has 65536 (add 65536 a.sp (single n)) ((register_of s 1 + n) % 65536)
 sp_raised laws {a} {s} under n small =
     (add_is laws.known 65536 (register_of s 1) n a.sp (single n) (record { normal = under.form.sp.normal; has = under.holds.parts.sp }) (single_is laws.known 65536 n small)).has
 
-sp_is : (laws : MemoryLaws) {device : Device} {framed : Bool} {a : Known} {s : ChipState} {first : Option ChipState} → IsUnder device framed a s first
+sp_is : (laws : MemoryLaws) {device : Device} {framed : Bool} {a : Known} {s : ChipState} {first : Option ChipState}
+    → IsUnder device framed a s first
     → Has 65536 (status_place device a.sp) (aligned device Words (register_of s 1))
 sp_is laws {device} {a} {s} under = laws.words.located device a.sp (register_of s 1) under.device_so.ram under.form.sp.normal under.holds.parts.sp
 
-above_is : (laws : MemoryLaws) {device : Device} {framed : Bool} {a : Known} {s : ChipState} {first : Option ChipState} → IsUnder device framed a s first
+above_is : (laws : MemoryLaws) {device : Device} {framed : Bool} {a : Known} {s : ChipState} {first : Option ChipState}
+    → IsUnder device framed a s first
     → Has 65536 (counter_place device a.sp) (aligned device Words ((register_of s 1 + 2) % 65536))
 above_is laws {device} {a} {s} under =
     laws.words.located device (above a.sp) ((register_of s 1 + 2) % 65536) under.device_so.ram (above_normal laws under.form)
@@ -70,19 +73,22 @@ counter_read laws {device} {framed} {a} {s} {first} under may =
 
 -- THE REGISTERS BEHIND IT
 
-pub counter_left : (s : ChipState) (status target : ℕ) → length s.registers ≡ 16 → get_or (left_of_return s status target).registers 0 0 ≡ even target
+pub counter_left : (s : ChipState) (status target : ℕ) → length s.registers ≡ 16
+    → get_or (left_of_return s status target).registers 0 0 ≡ even target
 counter_left s status target long =
     let counted = set s.registers 0 (even target) in
     get_or-set_other (set counted 1 ((register_of s 1 + 4) % 65536)) 2 0 (status % 512) 0 (λ e. omega (arith, e))
     ∙ get_or-set_other counted 1 0 ((register_of s 1 + 4) % 65536) 0 (λ e. omega (arith, e)) ∙ get_or-set_same s.registers 0 (even target) 0 (omega (arith, long))
 
-pub stack_left : (s : ChipState) (status target : ℕ) → length s.registers ≡ 16 → get_or (left_of_return s status target).registers 1 0 ≡ (register_of s 1 + 4) % 65536
+pub stack_left : (s : ChipState) (status target : ℕ) → length s.registers ≡ 16
+    → get_or (left_of_return s status target).registers 1 0 ≡ (register_of s 1 + 4) % 65536
 stack_left s status target long =
     let counted = set s.registers 0 (even target) in
     get_or-set_other (set counted 1 ((register_of s 1 + 4) % 65536)) 2 1 (status % 512) 0 (λ e. omega (arith, e))
     ∙ get_or-set_same counted 1 ((register_of s 1 + 4) % 65536) 0 (omega (arith, long, length-set s.registers 0 (even target)))
 
-status_left : (s : ChipState) (status target : ℕ) → length s.registers ≡ 16 → get_or (left_of_return s status target).registers 2 0 ≡ status % 512
+status_left : (s : ChipState) (status target : ℕ) → length s.registers ≡ 16
+    → get_or (left_of_return s status target).registers 2 0 ≡ status % 512
 status_left s status target long =
     let counted = set s.registers 0 (even target) in
     let stacked = set counted 1 ((register_of s 1 + 4) % 65536) in
@@ -127,7 +133,8 @@ return_law laws device framed a s first outcome under may =
     }
 
 -- an access of the list is the first one or the second
-pub return_shown : (laws : MemoryLaws) (device : Device) (framed : Bool) (a : Known) (s : ChipState) (first : Option ChipState) → IsUnder device framed a s first
+pub return_shown : (laws : MemoryLaws) (device : Device) (framed : Bool) (a : Known) (s : ChipState) (first : Option ChipState)
+    → IsUnder device framed a s first
     → AreShown (return_worked device a (register_of s 0)).accesses (return_accesses device s)
 unfolding return_worked
 return_shown laws device framed a s first under single_so (zero, lt, is) =
@@ -139,7 +146,8 @@ return_shown laws device framed a s first under single_so (suc zero, lt, is) =
     (Access pc Mem false 2 (W (counter_place device a.sp)), (1, omega arith, refl), (refl, refl, refl, refl, above_is laws under))
 return_shown laws device framed a s first under single_so (suc (suc k), lt, is) = absurd (omega (arith, lt))
 
-pub return_form : (laws : MemoryLaws) (device : Device) (framed : Bool) (a : Known) (pc : ℕ) → IsDevice device → IsKnown device.ram.lo device.ram.hi framed a
+pub return_form : (laws : MemoryLaws) (device : Device) (framed : Bool) (a : Known) (pc : ℕ) → IsDevice device
+    → IsKnown device.ram.lo device.ram.hi framed a
     → IsKnown device.ram.lo device.ram.hi framed (return_worked device a pc).after
 unfolding return_worked
 return_form laws device framed a pc is form =
@@ -148,13 +156,15 @@ return_form laws device framed a pc is form =
     let status = status_form framed word.entry (laws.words.read_form device framed a (status_place device a.sp) is form).entry in
     assumption (sp, status_length word, status, form)
 
-pub return_next : (laws : MemoryLaws) (device : Device) (framed : Bool) (a : Known) (pc : ℕ) → IsDevice device → IsKnown device.ram.lo device.ram.hi framed a
+pub return_next : (laws : MemoryLaws) (device : Device) (framed : Bool) (a : Known) (pc : ℕ) → IsDevice device
+    → IsKnown device.ram.lo device.ram.hi framed a
     → IsNormal 65536 (return_worked device a pc).next
 unfolding return_worked
 return_next laws device framed a pc is form =
     (even_parts_form laws.known (read_known device a Words (counter_place device a.sp)).set (laws.words.read_form device framed a (counter_place device a.sp) is form).normal).normal
 
-pub return_even : (laws : MemoryLaws) (device : Device) (framed : Bool) (a : Known) (pc : ℕ) → IsDevice device → IsKnown device.ram.lo device.ram.hi framed a
+pub return_even : (laws : MemoryLaws) (device : Device) (framed : Bool) (a : Known) (pc : ℕ) → IsDevice device
+    → IsKnown device.ram.lo device.ram.hi framed a
     → HasRemainder 65536 2 0 (return_worked device a pc).next
 unfolding return_worked
 return_even laws device framed a pc is form =

@@ -47,7 +47,8 @@ low_reads f word (small, agrees) =
     let same : bit_and (word % 512) 511 ≡ bit_and word 511 = and_mask (word % 512) 9 ∙ omega arith ∙ sym (and_mask word 9) in
     (omega arith, same ∙ agrees)
 
-related : (f : ChipState) (entry : Option Entry) (v : ℕ) → IsFromEntry (Some (suspended_of f)) entry v → IsFromEntry (Some (suspended_of f)) (status_relation entry) (v % 512)
+related : (f : ChipState) (entry : Option Entry) (v : ℕ) → IsFromEntry (Some (suspended_of f)) entry v
+    → IsFromEntry (Some (suspended_of f)) (status_relation entry) (v % 512)
 related f None v holds = tt
 related f (Some entry) v (word, reads, is) =
     cond_both (entry.place == 2) (Some (record { place = 2; and = bit_or entry.and 65024; or = bit_and entry.or 511 })) None
@@ -62,7 +63,8 @@ status_related (Some f) entry v holds = related f entry v holds
 status_related None None v holds = tt
 status_related None (Some entry) v holds = absurd holds
 
-pub status_holds : (laws : MemoryLaws) (framed : Bool) (first : Option ChipState) (word : Word) (v : ℕ) → IsWord framed word → HoldsOfWord (option_map suspended_of first) word v
+pub status_holds : (laws : MemoryLaws) (framed : Bool) (first : Option ChipState) (word : Word) (v : ℕ)
+    → IsWord framed word → HoldsOfWord (option_map suspended_of first) word v
     → HoldsOfStatus (option_map suspended_of first) (status_from word) (v % 512)
 status_holds laws framed first word v form holds = record {
   bits = bits_take 9 (known_bits 16 word.set) v (v % 512) (v / 512) (omega arith) (omega arith) (laws.known.bits.known 16 v word.set form.normal holds.0);

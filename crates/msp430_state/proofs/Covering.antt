@@ -55,11 +55,13 @@ partwise new held within =
     let status = and_parts (each_passes is_bit_within new.status.bits held.status.bits) (is_entry_within new.status.entry held.status.entry) parts.1 in
     assumption (parts, status)
 
-keeps_more : KnownLaws → (device : Device) (a b : List (ℕ × ℕ)) (ram : List ℕ) (first : Option ChipState) → ranges_within a b ≡ true → KeepsUntouched device a ram first → KeepsUntouched device b ram first
+keeps_more : KnownLaws → (device : Device) (a b : List (ℕ × ℕ)) (ram : List ℕ) (first : Option ChipState)
+    → ranges_within a b ≡ true → KeepsUntouched device a ram first → KeepsUntouched device b ram first
 keeps_more laws device a b ram None within keeps = tt
 keeps_more laws device a b ram (Some f) within keeps = λ at none. keeps at (untouched_more laws a b at within none)
 
-pub parts_more : (laws : KnownLaws) (device : Device) (lo hi : ℕ) (framed : Bool) (a b : Known) (first : Option ChipState) (registers ram : List ℕ) → IsKnown lo hi framed a → known_within a b ≡ true
+pub parts_more : (laws : KnownLaws) (device : Device) (lo hi : ℕ) (framed : Bool) (a b : Known) (first : Option ChipState) (registers ram : List ℕ)
+    → IsKnown lo hi framed a → known_within a b ≡ true
     → HoldsOfParts device a first registers ram → HoldsOfParts device b first registers ram
 parts_more laws device lo hi framed a b first registers ram form within holds =
     let parts = partwise a b within in
@@ -79,7 +81,8 @@ parts_more laws device lo hi framed a b first registers ram form within holds =
       untouched = keeps_more laws device a.touched b.touched ram first parts.touched holds.untouched;
     }
 
-pub holds_more : (laws : KnownLaws) (device : Device) (lo hi : ℕ) (framed : Bool) (a b : Known) (s : ChipState) (first : Option ChipState) → IsKnown lo hi framed a → known_within a b ≡ true
+pub holds_more : (laws : KnownLaws) (device : Device) (lo hi : ℕ) (framed : Bool) (a b : Known) (s : ChipState) (first : Option ChipState)
+    → IsKnown lo hi framed a → known_within a b ≡ true
     → HoldsOf device a s first → HoldsOf device b s first
 holds_more laws device lo hi framed a b s first form within holds = record {
   state = holds.state;
@@ -88,7 +91,8 @@ holds_more laws device lo hi framed a b s first form within holds = record {
   parts = parts_more laws device lo hi framed a b first s.registers s.ram form within holds.parts;
 }
 
-pub covers_more : (laws : KnownLaws) (device : Device) (lo hi : ℕ) (framed : Bool) (node : Node) (a b : Known) (s : ChipState) (first : Option ChipState) → IsKnown lo hi framed a → known_within a b ≡ true
+pub covers_more : (laws : KnownLaws) (device : Device) (lo hi : ℕ) (framed : Bool) (node : Node) (a b : Known) (s : ChipState) (first : Option ChipState)
+    → IsKnown lo hi framed a → known_within a b ≡ true
     → Covers device node a s first → Covers device node b s first
 covers_more laws device lo hi framed (At pc calls frame) a b s first form within covers =
     (covers.0, holds_more laws device lo hi framed a b s first form within covers.1, covers.2)
@@ -97,7 +101,8 @@ covers_more laws device lo hi framed (Exit pc frame) a b s first form within cov
 
 -- THE START
 
-pub ram_bytes : (device : Device) (ram : List ℕ) → length ram ≡ ram_size device → All (λ b. b < 256) ram → (at : ℕ) → ram_byte device ram at < 256
+pub ram_bytes : (device : Device) (ram : List ℕ) → length ram ≡ ram_size device → All (λ b. b < 256) ram → (at : ℕ)
+    → ram_byte device ram at < 256
 ram_bytes device ram long bytes at =
     cond_both (is_ram device at) (get_or ram (at - device.ram.lo) 0) 0 (λ b. b < 256)
     (λ e. let ends = and_parts (nat_le device.ram.lo at) (nat_le at device.ram.hi) e in
@@ -106,7 +111,8 @@ ram_bytes device ram long bytes at =
     All-get_or (λ b. b < 256) ram (at - device.ram.lo) 0 (omega (arith, long)) bytes)
     (λ e. omega arith)
 
-pub reset_holds : (laws : KnownLaws) (device : Device) (s : ChipState) → IsResetOf device s → HoldsOf device (first_known device.ram.lo device.ram.hi) s None
+pub reset_holds : (laws : KnownLaws) (device : Device) (s : ChipState) → IsResetOf device s
+    → HoldsOf device (first_known device.ram.lo device.ram.hi) s None
 reset_holds laws device s reset =
     let long = reset.state.registers in
     let one : 1 < length s.registers = omega arith in
@@ -129,5 +135,6 @@ reset_holds laws device s reset =
       };
     }
 
-pub reset_covered : (laws : KnownLaws) (device : Device) (s : ChipState) → IsResetOf device s → Covers device (At (reset_address device) [] Base) (first_known device.ram.lo device.ram.hi) s None
+pub reset_covered : (laws : KnownLaws) (device : Device) (s : ChipState) → IsResetOf device s
+    → Covers device (At (reset_address device) [] Base) (first_known device.ram.lo device.ram.hi) s None
 reset_covered laws device s reset = (reset.starts, reset_holds laws device s reset, refl)

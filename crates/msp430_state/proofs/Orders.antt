@@ -39,7 +39,8 @@ module _ (laws : KnownLaws) (lo hi : ℕ) (framed : Bool) where
   unfolding known_joined
   joined_ordered = united_ordered (join 65536) join_cells (join_unions laws.sets laws.cells 65536 lo hi)
 
-  pub widened_ordered : (marks : List ℕ) → AreMarks 65536 marks → IsOrdered (IsKnown lo hi framed) known_within (known_widened marks) (top_known lo hi framed)
+  pub widened_ordered : (marks : List ℕ) → AreMarks 65536 marks
+      → IsOrdered (IsKnown lo hi framed) known_within (known_widened marks) (top_known lo hi framed)
   unfolding known_widened
   widened_ordered marks below =
       united_ordered (λ h n. widen 65536 h n marks) (λ h n. widen_cells h n marks) (widen_unions laws.sets laws.cells 65536 lo hi marks below below)

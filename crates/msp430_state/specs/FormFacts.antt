@@ -22,7 +22,8 @@ and_form true m (Some entry) (place, and_small, or_small) =
     let second = and_le_l entry.or m in
     (place, omega (arith, and_small, first), omega (arith, or_small, second))
 
-pub or_form : (framed : Bool) (m : ℕ) (entry : Option Entry) → m < 65536 → IsRelation framed entry → IsRelation framed (option_map (entry_or m) entry)
+pub or_form : (framed : Bool) (m : ℕ) (entry : Option Entry) → m < 65536 → IsRelation framed entry
+    → IsRelation framed (option_map (entry_or m) entry)
 or_form framed m None small form = no_relation framed
 or_form false m (Some entry) small form = form
 or_form true m (Some entry) small (place, and_small, or_small) = (place, and_small, or_lt 16 entry.or m or_small small)

@@ -19,13 +19,16 @@ use irq_frames::known_laws;
 pub fn states_are_ordered()
     ensures itself { (lo hi : ℕ) (framed : Bool) (a : Known) → IsKnown lo hi framed a → known_within a a ≡ true }
     ensures along { (a b c : Known) → known_within a b ≡ true → known_within b c ≡ true → known_within a c ≡ true }
-    ensures join_held { (lo hi : ℕ) (framed : Bool) (a b : Known) → IsKnown lo hi framed a → IsKnown lo hi framed b → known_within a (known_joined a b) ≡ true }
-    ensures join_new { (lo hi : ℕ) (framed : Bool) (a b : Known) → IsKnown lo hi framed a → IsKnown lo hi framed b → known_within b (known_joined a b) ≡ true }
+    ensures join_held { (lo hi : ℕ) (framed : Bool) (a b : Known) → IsKnown lo hi framed a
+        → IsKnown lo hi framed b → known_within a (known_joined a b) ≡ true }
+    ensures join_new { (lo hi : ℕ) (framed : Bool) (a b : Known) → IsKnown lo hi framed a
+        → IsKnown lo hi framed b → known_within b (known_joined a b) ≡ true }
     ensures widen_held { (lo hi : ℕ) (framed : Bool) (marks : List ℕ) → AreMarks 65536 marks → (a b : Known) → IsKnown lo hi framed a → IsKnown lo hi framed b
         → known_within a (known_widened marks a b) ≡ true }
     ensures widen_new { (lo hi : ℕ) (framed : Bool) (marks : List ℕ) → AreMarks 65536 marks → (a b : Known) → IsKnown lo hi framed a → IsKnown lo hi framed b
         → known_within b (known_widened marks a b) ≡ true }
-    ensures greatest { (lo hi : ℕ) (framed : Bool) (a : Known) → IsKnown lo hi framed a → known_within a (top_known lo hi framed) ≡ true }
+    ensures greatest { (lo hi : ℕ) (framed : Bool) (a : Known) → IsKnown lo hi framed a
+        → known_within a (top_known lo hi framed) ≡ true }
 {
     known_laws();
 }
@@ -34,7 +37,8 @@ pub fn states_are_ordered()
 pub fn states_keep_form()
     ensures first { (lo hi : ℕ) (framed : Bool) → IsKnown lo hi framed (first_known lo hi) }
     ensures greatest { (lo hi : ℕ) (framed : Bool) → lo ≤ hi → IsKnown lo hi framed (top_known lo hi framed) }
-    ensures join { (lo hi : ℕ) (framed : Bool) (a b : Known) → IsKnown lo hi framed a → IsKnown lo hi framed b → IsKnown lo hi framed (known_joined a b) }
+    ensures join { (lo hi : ℕ) (framed : Bool) (a b : Known) → IsKnown lo hi framed a → IsKnown lo hi framed b
+        → IsKnown lo hi framed (known_joined a b) }
     ensures widen { (lo hi : ℕ) (framed : Bool) (marks : List ℕ) → AreMarks 65536 marks → (a b : Known) → IsKnown lo hi framed a → IsKnown lo hi framed b
         → IsKnown lo hi framed (known_widened marks a b) }
 {
@@ -48,7 +52,8 @@ pub fn states_cover()
         → known_within a b ≡ true → HoldsOfParts device a first registers ram → HoldsOfParts device b first registers ram }
     ensures more { (device : ADevice) (lo hi : ℕ) (framed : Bool) (node : ANode) (a b : Known) (s : AState) (first : Option AState) → IsKnown lo hi framed a
         → known_within a b ≡ true → Covers device node a s first → Covers device node b s first }
-    ensures reset { (device : ADevice) (s : AState) → IsResetOf device s → Covers device (At (reset_address device) [] Base) (first_known device.ram.lo device.ram.hi) s None }
+    ensures reset { (device : ADevice) (s : AState) → IsResetOf device s
+        → Covers device (At (reset_address device) [] Base) (first_known device.ram.lo device.ram.hi) s None }
 {
     known_laws();
 }

@@ -65,7 +65,8 @@ opposite (suc k) (suc i) x z lt e =
     let power : 2 ^ suc k ≡ 2 ^ k * 2 = pow-suc 2 k in
     ap (λ bit. 1 - bit) (bit_at-suc x i) ∙ opposite k i (x / 2) (z / 2) (omega (arith, lt)) (omega (arith, e, power)) ∙ sym (bit_at-suc z i)
 
-each_bit : (f : Tri → Tri → Tri) (xs ys : List Tri) (i bit : ℕ) → bit < 2 → IsBit (f (slice_index_or xs i Either) (slice_index_or ys i Either)) bit
+each_bit : (f : Tri → Tri → Tri) (xs ys : List Tri) (i bit : ℕ) → bit < 2
+    → IsBit (f (slice_index_or xs i Either) (slice_index_or ys i Either)) bit
     → IsBit (slice_index_or (each_with f xs ys) i Either) bit
 each_bit f [] ys i bit two is = two
 each_bit f (a ∷ xs) [] i bit two is = two
@@ -87,7 +88,8 @@ number_behind operation.Bic x y z = bit_and y z
 number_behind operation.Bis x y z = bit_or y x
 number_behind other x y z = 0
 
-one_behind : (done : Operation) (k i : ℕ) (a b : Tri) (x y z : ℕ) → sets_flags done ≡ false → i < k → x + z + 1 ≡ 2 ^ k → IsBit a (bit_at x i)
+one_behind : (done : Operation) (k i : ℕ) (a b : Tri) (x y z : ℕ) → sets_flags done ≡ false → i < k → x + z + 1 ≡ 2 ^ k
+    → IsBit a (bit_at x i)
     → (reads_destination done ≡ true → IsBit b (bit_at y i)) → IsBit (bit_behind done a b) (bit_at (number_behind done x y z) i)
 one_behind operation.Mov k i a b x y z none lt other h held = h
 one_behind operation.Bic k i a b x y z none lt other h held =
@@ -97,7 +99,8 @@ one_behind operation.Bis k i a b x y z none lt other h held =
     subst (IsBit (tri_or b a)) (sym (bit_at_or y x i)) (or_bit b a (bit_at y i) (bit_at x i) (held refl) h)
 one_behind other k i a b x y z none lt one h held = absurd (cc)
 
-below_behind : (done : Operation) (n k : ℕ) (xs ys : List Tri) (x y z : ℕ) → sets_flags done ≡ false → n ≤ k → x + z + 1 ≡ 2 ^ k → AgreesBelow n xs x
+below_behind : (done : Operation) (n k : ℕ) (xs ys : List Tri) (x y z : ℕ) → sets_flags done ≡ false → n ≤ k
+    → x + z + 1 ≡ 2 ^ k → AgreesBelow n xs x
     → (reads_destination done ≡ true → AgreesBelow n ys y) → AgreesBelow n (each_with (bit_behind done) xs ys) (number_behind done x y z)
 below_behind done n k xs ys x y z none le other h held i lt =
     let r = number_behind done x y z in
@@ -105,13 +108,15 @@ below_behind done n k xs ys x y z none le other h held i lt =
     each_bit (bit_behind done) xs ys i (bit_at r i) (bit_at-lt r i)
     (one_behind done k i (slice_index_or xs i Either) (slice_index_or ys i Either) x y z none far other (h i lt) (λ reads. held reads i lt))
 
-byte_behind : (done : Operation) (x y z : ℕ) → sets_flags done ≡ false → x < 256 → (reads_destination done ≡ true → y < 256) → number_behind done x y z < 256
+byte_behind : (done : Operation) (x y z : ℕ) → sets_flags done ≡ false → x < 256
+    → (reads_destination done ≡ true → y < 256) → number_behind done x y z < 256
 byte_behind operation.Mov x y z none small few = small
 byte_behind operation.Bic x y z none small few = let under = and_le_l y z in let less = few refl in omega (arith, under, less)
 byte_behind operation.Bis x y z none small few = or_lt 8 y x (few refl) small
 byte_behind other x y z none small few = absurd (cc)
 
-pub length_moved : (done : Operation) (width : Width) (given held : List Tri) → length given ≡ 9 → length held ≡ 9 → length (moved_bits done width given held) ≡ 9
+pub length_moved : (done : Operation) (width : Width) (given held : List Tri) → length given ≡ 9 → length held ≡ 9
+    → length (moved_bits done width given held) ≡ 9
 length_moved done Words given held long nine = length-each_with (bit_behind done) given held (long ∙ sym nine) ∙ nine
 length_moved done Byte given held long nine =
     length-set (each_with (bit_behind done) given held) 8 Zero ∙ (length-each_with (bit_behind done) given held (long ∙ sym nine) ∙ nine)
@@ -122,7 +127,8 @@ places Words = 9
 places Byte = 8
 
 -- SR as an operand of a width, with any bits above those that it holds
-pub held_agrees : (width : Width) (held : List Tri) (y sr above : ℕ) → Agrees held sr → y ≡ sr % modulus width + 512 * above → (width ≡ Byte → above ≡ 0)
+pub held_agrees : (width : Width) (held : List Tri) (y sr above : ℕ) → Agrees held sr
+    → y ≡ sr % modulus width + 512 * above → (width ≡ Byte → above ≡ 0)
     → AgreesBelow (places width) held y
 held_agrees Words held y sr above agrees is bytes =
     below_same 9 held sr y above (sr / 65536 * 128) (omega (arith, is)) (λ i lt. bits_at held i sr agrees)
@@ -138,7 +144,8 @@ taken_agrees width bits x agrees =
       | Byte ↦ below_same 8 (take 9 bits) (x % 512) x (x / 512 * 2) 0 (omega arith) (λ i lt. bits_at (take 9 bits) i (x % 512) low)
     ]
 
-pub moved_agrees : (done : Operation) (width : Width) (given held : List Tri) (x y : ℕ) → sets_flags done ≡ false → length given ≡ 9 → length held ≡ 9
+pub moved_agrees : (done : Operation) (width : Width) (given held : List Tri) (x y : ℕ) → sets_flags done ≡ false
+    → length given ≡ 9 → length held ≡ 9
     → x < modulus width → AgreesBelow (places width) given x → (reads_destination done ≡ true → AgreesBelow (places width) held y)
     → (reads_destination done ≡ true → width ≡ Byte → y < 256)
     → Agrees (moved_bits done width given held) (number_behind done x y (complement width x) % 512)

@@ -55,7 +55,8 @@ pub record StatusLaws : Type 0 where
 
 -- PC AS AN OPERAND
 
-reads_none : ((register : Register) → Kind register) → (origin : Source) (target : Register) → reads_counter origin (destination.Register target) ≡ false
+reads_none : ((register : Register) → Kind register) → (origin : Source) (target : Register)
+    → reads_counter origin (destination.Register target) ≡ false
 reads_none kinds (source.Register register) target = elim (kinds register) [
   | Counter e ↦ ap (λ r. reads_counter (source.Register r) (destination.Register target)) e
   | Stack e ↦ ap (λ r. reads_counter (source.Register r) (destination.Register target)) e
@@ -65,10 +66,12 @@ reads_none kinds (source.Register register) target = elim (kinds register) [
 ]
 reads_none kinds other target = refl
 
-pub counter_one : (laws : StatusLaws) (pc len : ℕ) (origin : Source) (target : Register) → counter_set pc len origin (destination.Register target) ≡ single ((pc + len) % 65536)
+pub counter_one : (laws : StatusLaws) (pc len : ℕ) (origin : Source) (target : Register)
+    → counter_set pc len origin (destination.Register target) ≡ single ((pc + len) % 65536)
 counter_one laws pc len origin target = cond-false (reads_counter origin (destination.Register target)) _ (single ((pc + len) % 65536)) (reads_none laws.kinds origin target)
 
-counts_behind : (laws : StatusLaws) (s : ChipState) (len : ℕ) (origin : Source) (target : Register) (counted : ℕ) → MayCount s len origin (destination.Register target) counted
+counts_behind : (laws : StatusLaws) (s : ChipState) (len : ℕ) (origin : Source) (target : Register) (counted : ℕ)
+    → MayCount s len origin (destination.Register target) counted
     → counted ≡ behind s len
 counts_behind laws s len origin target counted (Behind none is) = is
 counts_behind laws s len origin target counted (Within some option few is) = absurd (false≢true (sym (reads_none laws.kinds origin target) ∙ some))
@@ -138,7 +141,8 @@ moved laws {device} {s} {len} {width} {origin} {outcome} may target =
     }
 
 -- MOV to R3 leaves what is grown
-pub grown_form : (laws : StatusLaws) {device : Device} {framed : Bool} {a : Known} (pc len : ℕ) (width : Width) (origin : Source) → IsDevice device
+pub grown_form : (laws : StatusLaws) {device : Device} {framed : Bool} {a : Known} (pc len : ℕ) (width : Width) (origin : Source)
+    → IsDevice device
     → IsKnown device.ram.lo device.ram.hi framed a → IsSource origin
     → IsKnown device.ram.lo device.ram.hi framed (grown_known a (single ((pc + len) % 65536)) width origin)
 unfolding double_worked
@@ -161,12 +165,14 @@ grown_parts laws {device} {framed} {a} {s} {first} {len} {width} {origin} under 
     (subst (λ (left : Left). HoldsOfParts device (grown_known a (counter_set (register_of s 0) len origin (destination.Register R3)) width origin) first left.registers left.ram) by.left_is is.parts)
 
 -- MOV to R4 shows the source
-written_set : (width : Width) (word : Word) (entry : Option Entry) → (written_word width (values_of width word) entry).set ≡ (written_word width (values_of width word) None).set
+written_set : (width : Width) (word : Word) (entry : Option Entry)
+    → (written_word width (values_of width word) entry).set ≡ (written_word width (values_of width word) None).set
 written_set Words word entry = refl
 written_set Byte word entry = refl
 
 -- the word that MOV to R4 leaves there
-moved_word : (laws : StatusLaws) {device : Device} {framed : Bool} {a : Known} (pc len : ℕ) (width : Width) (origin : Source) → IsDevice device
+moved_word : (laws : StatusLaws) {device : Device} {framed : Bool} {a : Known} (pc len : ℕ) (width : Width) (origin : Source)
+    → IsDevice device
     → IsKnown device.ram.lo device.ram.hi framed a → IsSource origin
     → let counted = counter_set pc len origin (destination.Register R4) in let word = operand_word device a counted width (source_reach pc a counted origin) in
     word_of (double_worked device framed a pc len Mov width origin (destination.Register R4)).after 4 ≡ written_word width (values_of width word) word.entry
@@ -181,7 +187,8 @@ moved_word laws {device} {framed} {a} pc len width origin is form from_so =
     let some : 0 < length grown_so.registers = omega (arith, grown_is.count) in
     get_or-set_same grown_so.registers 0 (written_word width (values_of width word) word.entry) (unknown 2) some
 
-moved_normal : (laws : StatusLaws) {device : Device} {framed : Bool} {a : Known} (pc len : ℕ) (width : Width) (origin : Source) → IsDevice device
+moved_normal : (laws : StatusLaws) {device : Device} {framed : Bool} {a : Known} (pc len : ℕ) (width : Width) (origin : Source)
+    → IsDevice device
     → IsKnown device.ram.lo device.ram.hi framed a → IsSource origin
     → IsNormal 65536 (word_of (double_worked device framed a pc len Mov width origin (destination.Register R4)).after 4).set
 moved_normal laws {device} {framed} {a} pc len width origin is form from_so =
@@ -190,7 +197,8 @@ moved_normal laws {device} {framed} {a} pc len width origin is form from_so =
     let word : IsWord framed (word_of after 4) = All-get_or (IsWord framed) after.registers 0 (unknown 2) (omega (arith, known.count)) known.registers in
     word.normal
 
-with_length : (laws : StatusLaws) (registers : List ℕ) (register : Register) (value : ℕ) → length (with_register registers register value) ≡ length registers
+with_length : (laws : StatusLaws) (registers : List ℕ) (register : Register) (value : ℕ)
+    → length (with_register registers register value) ≡ length registers
 with_length laws registers register value = elim (laws.kinds register) [
   | Counter e ↦ rw e (length-set registers 0 (even value))
   | Stack e ↦ rw e (length-set registers 1 (even value))
@@ -199,7 +207,8 @@ with_length laws registers register value = elim (laws.kinds register) [
   | General is ↦ rw (is.set registers value) (length-set registers _ value)
 ]
 
-grown_length : (laws : StatusLaws) (registers : List ℕ) (width : Width) (origin : Source) → length (grown registers width origin) ≡ length registers
+grown_length : (laws : StatusLaws) (registers : List ℕ) (width : Width) (origin : Source)
+    → length (grown registers width origin) ≡ length registers
 grown_length laws registers width (source.IndirectIncrement register) = with_length laws registers register ((value_in registers register + growth width register) % 65536)
 grown_length laws registers width other = refl
 
@@ -209,7 +218,8 @@ behind_length laws s len counted width origin =
     length-set (behind_source s counted width origin) 0 (behind s len) ∙ (grown_length laws (at_source s counted) width origin ∙ length-set s.registers 0 counted)
 
 -- what stands in R4 behind the move
-moved_number : (laws : StatusLaws) (device : Device) (s : ChipState) (len counted : ℕ) (width : Width) (origin : Source) (v : ℕ) → length s.registers ≡ 16
+moved_number : (laws : StatusLaws) (device : Device) (s : ChipState) (len counted : ℕ) (width : Width) (origin : Source) (v : ℕ)
+    → length s.registers ≡ 16
     → get_or (moved_left device s len counted width origin R4 v).registers 4 0 ≡ v
 moved_number laws device s len counted width origin v sixteen =
     let registers = registers_behind s len counted width origin in

@@ -21,7 +21,8 @@ abbrev pub status_left : (registers ram : List ℕ) → (status : ℕ) → Left
 status_left registers ram status = record { registers = set registers 2 status; ram = ram; hit = None }
 
 -- a write that sets no flags
-pub unflagged : (registers ram : List ℕ) (status : ℕ) → with_status None (status_left registers ram status) ≡ status_left registers ram status
+pub unflagged : (registers ram : List ℕ) (status : ℕ)
+    → with_status None (status_left registers ram status) ≡ status_left registers ram status
 unflagged registers ram status = ap (λ (list : List ℕ). record { registers = list; ram = ram; hit = None }) (set-get_or (set registers 2 status) 2 0)
 
 -- an SR that is written, with what is known of it
@@ -33,7 +34,8 @@ pub record Writes (registers ram : List ℕ) (bits : List Tri) (left : Left) : T
 -- what stands under what is known in front of the write stands under what is known behind it, whatever PC was
 pub written_is : ((m v : ℕ) → v < m → IsNormal m (single v) × Has m (single v) v)
     → {device : Device} {a : Known} {first : Option ChipState} {before registers ram : List ℕ} (next : ℕ) {bits : List Tri} {left : Left}
-    → length registers ≡ 16 → next < 65536 → get_or registers 0 0 ≡ next → ((r : ℕ) → 0 < r → get_or registers r 0 ≡ get_or before r 0) → HoldsOfParts device a first before ram
+    → length registers ≡ 16 → next < 65536 → get_or registers 0 0 ≡ next
+    → ((r : ℕ) → 0 < r → get_or registers r 0 ≡ get_or before r 0) → HoldsOfParts device a first before ram
     → Writes registers ram bits left → IsLeft device (with_status_bits a bits) first (single next) left
 written_is singles {device} {a} {first} {registers} {ram} next {bits} long small counter alike holds writes =
     let one = singles 65536 next small in
@@ -45,6 +47,7 @@ written_is singles {device} {a} {first} {registers} {ram} next {bits} long small
     subst (IsLeft device (with_status_bits a bits) first (single next)) (sym writes.left_is) left_so
 
 -- bits that may be any stand for each SR
-pub freed : {registers ram : List ℕ} (bits : List Tri) {left : Left} → ((status : ℕ) → status < 512 → Agrees bits status) → LeavesFree registers ram left
+pub freed : {registers ram : List ℕ} (bits : List Tri) {left : Left}
+    → ((status : ℕ) → status < 512 → Agrees bits status) → LeavesFree registers ram left
     → Writes registers ram bits left
 freed bits all free = record { status = free.status; agrees = all free.status free.below; left_is = free.left_is }

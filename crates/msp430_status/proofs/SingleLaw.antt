@@ -36,7 +36,8 @@ use Rattle.msp430_status.proofs.Swapped.{length_swapped, swapped_agree}
 
 -- what a result that sets no flags leaves
 written_left : (device : Device) (ram registers : List ℕ) (width : Width) (v : ℕ) (made_so : Made) (left : Left) → (v, None) ≡ made_so
-    → left ≡ with_status made_so.1 (put device registers ram width (place.InRegister Sr) made_so.0) → left ≡ status_left registers ram (v % 512)
+    → left ≡ with_status made_so.1 (put device registers ram width (place.InRegister Sr) made_so.0)
+    → left ≡ status_left registers ram (v % 512)
 written_left device ram registers width v made_so left same is =
     is ∙ ap (λ (m : Made). with_status m.1 (put device registers ram width (place.InRegister Sr) m.0)) (sym same) ∙ unflagged registers ram (v % 512)
 
@@ -49,7 +50,8 @@ value_written device ram registers width bits x made_so left may left_is =
     record { status = n % 512; agrees = free_agree (n % 512) (omega arith); left_is = written_left device ram registers width n made_so left (same_Some (n, None) made_so may) left_is }
 
 -- the bits that are known of SR, whatever its bits 9 to 15 are
-single_written : {device : Device} {ram registers : List ℕ} (done : SingleOperation) (width : Width) (a : Known) (sr bits x : ℕ) {carry : ℕ} {left : Left} → HasWidth done width
+single_written : {device : Device} {ram registers : List ℕ} (done : SingleOperation) (width : Width) (a : Known) (sr bits x : ℕ) {carry : ℕ} {left : Left}
+    → HasWidth done width
     → Agrees a.status.bits sr → sr < 512 → bits < 128 → x ≡ sr % modulus width
     → MayLeaveSingle device ram registers done width (place.InRegister Sr) (with_free_bits width (place.InRegister Sr) bits x) carry left
     → Writes registers ram (single_bits done a.status.bits) left
@@ -108,7 +110,8 @@ length_single : (done : SingleOperation) (a : Known) → length (single_bits don
 length_single operation.Swpb a = length_swapped a.status.bits
 length_single other a = length_free
 
-pub single_status_form : (device : Device) (framed : Bool) (a : Known) (pc len : ℕ) (done : SingleOperation) (width : Width) → IsKnown device.ram.lo device.ram.hi framed a
+pub single_status_form : (device : Device) (framed : Bool) (a : Known) (pc len : ℕ) (done : SingleOperation) (width : Width)
+    → IsKnown device.ram.lo device.ram.hi framed a
     → IsKnown device.ram.lo device.ram.hi framed (single_status_worked device framed a pc len done width).after
 unfolding single_status_worked
 single_status_form device framed a pc len done width form = assumption (length_single done a, no_status_relation framed, form)

@@ -69,12 +69,14 @@ pointer_status laws registers register value pointer = elim (laws.kinds register
   | General is ↦ ap (λ list. get_or list 2 0) (is.set registers value) ∙ get_or-set_other registers (number register) 2 value 0 (λ e. let low = is.above in omega (arith, e, low))
 ]
 
-grown_status : (laws : StatusLaws) (registers : List ℕ) (width : Width) (origin : Source) → IsSource origin → get_or (grown registers width origin) 2 0 ≡ get_or registers 2 0
+grown_status : (laws : StatusLaws) (registers : List ℕ) (width : Width) (origin : Source) → IsSource origin
+    → get_or (grown registers width origin) 2 0 ≡ get_or registers 2 0
 grown_status laws registers width (source.IndirectIncrement register) is =
     pointer_status laws registers register ((value_in registers register + growth width register) % 65536) is
 grown_status laws registers width other is = refl
 
-held_number : (reads : Bool) (device : Device) (ram registers : List ℕ) (width : Width) (y : ℕ) → MayStandIf reads device ram registers width (place.InRegister Sr) y
+held_number : (reads : Bool) (device : Device) (ram registers : List ℕ) (width : Width) (y : ℕ)
+    → MayStandIf reads device ram registers width (place.InRegister Sr) y
     → reads ≡ true → y ≡ get_or registers 2 0 % modulus width
 held_number true device ram registers width y held e = held
 held_number false device ram registers width y held e = absurd (cc)
@@ -95,12 +97,15 @@ free_above Byte bits y = omega arith
 -- WHAT IS LEFT
 
 result_left : (device : Device) (ram registers : List ℕ) (width : Width) (v : ℕ) (made_so : Made) (left : Left) → (v, None) ≡ made_so
-    → left ≡ with_status made_so.1 (put_if true device registers ram width (place.InRegister Sr) made_so.0) → left ≡ status_left registers ram (v % 512)
+    → left ≡ with_status made_so.1 (put_if true device registers ram width (place.InRegister Sr) made_so.0)
+    → left ≡ status_left registers ram (v % 512)
 result_left device ram registers width v made_so left same is =
     is ∙ ap (λ (m : Made). with_status m.1 (put_if true device registers ram width (place.InRegister Sr) m.0)) (sym same) ∙ unflagged registers ram (v % 512)
 
-left_is : {device : Device} {ram registers : List ℕ} (done : Operation) {width : Width} {x y carry : ℕ} {left : Left} → sets_flags done ≡ false
-    → MayLeaveDouble device ram registers done width (place.InRegister Sr) x y carry left → left ≡ status_left registers ram (number_behind done x y (complement width x) % 512)
+left_is : {device : Device} {ram registers : List ℕ} (done : Operation) {width : Width} {x y carry : ℕ} {left : Left}
+    → sets_flags done ≡ false
+    → MayLeaveDouble device ram registers done width (place.InRegister Sr) x y carry left
+    → left ≡ status_left registers ram (number_behind done x y (complement width x) % 512)
 left_is done none (FreeStatus free freed) = absurd (false≢true (sym none ∙ (and_parts (sets_flags done) true free).0))
 left_is {device} {ram} {registers} operation.Mov {width} {x} {left} none (OfResult other made_so may is) =
     result_left device ram registers width x made_so left (same_Some (x, None) made_so may) is
@@ -110,7 +115,8 @@ left_is {device} {ram} {registers} operation.Bis {width} {x} {y} {left} none (Of
     let v = bit_or y x in result_left device ram registers width v made_so left (same_Some (v, None) made_so may) is
 left_is done none (OfResult other made_so may is) = absurd (cc)
 
-put_hit : (writes : Bool) (device : Device) (registers ram : List ℕ) (width : Width) (v : ℕ) → (put_if writes device registers ram width (place.InRegister Sr) v).hit ≡ None
+put_hit : (writes : Bool) (device : Device) (registers ram : List ℕ) (width : Width) (v : ℕ)
+    → (put_if writes device registers ram width (place.InRegister Sr) v).hit ≡ None
 put_hit true device registers ram width v = refl
 put_hit false device registers ram width v = refl
 
@@ -131,7 +137,8 @@ lowest_length width word =
     let set = (written_word width (values_of width word) None).set in
     length-take-le 9 (known_bits 16 set) (omega (arith, length-map-range_with_len (λ place. known_bit 16 place set) 0 16))
 
-source_length : (a : Known) (width : Width) (origin : Source) (word : Word) → length a.status.bits ≡ 9 → length (source_bits a width origin word) ≡ 9
+source_length : (a : Known) (width : Width) (origin : Source) (word : Word) → length a.status.bits ≡ 9
+    → length (source_bits a width origin word) ≡ 9
 source_length a width (source.Register Sr) word nine = nine
 source_length a width other word nine = lowest_length width word
 
@@ -144,20 +151,23 @@ status_source a s counted width bits x agrees is =
     held_agrees width a.status.bits (with_free_bits width (place.InRegister Sr) bits x) (register_of s 2) (bits_above width bits) agrees
     (free_above width bits x ∙ ap (λ n. n + 512 * bits_above width bits) (is ∙ ap (λ n. n % modulus width) kept)) (no_bits_above width bits)
 
-source_agrees : (a : Known) (s : ChipState) (counted : ℕ) (width : Width) (origin : Source) (device : Device) (word : Word) (bits x : ℕ) → Agrees a.status.bits (register_of s 2)
+source_agrees : (a : Known) (s : ChipState) (counted : ℕ) (width : Width) (origin : Source) (device : Device) (word : Word) (bits x : ℕ)
+    → Agrees a.status.bits (register_of s 2)
     → MayStandAt device s.ram (at_source s counted) width (origin_of s counted origin) x
     → AgreesBelow (places width) (lowest_bits width word) (source_number s counted width origin bits x)
     → AgreesBelow (places width) (source_bits a width origin word) (source_number s counted width origin bits x)
 source_agrees a s counted width (source.Register Sr) device word bits x agrees reads lowest = status_source a s counted width bits x agrees reads
 source_agrees a s counted width other device word bits x agrees reads lowest = lowest
 
-byte_held : (width : Width) (bits y sr : ℕ) → y ≡ sr % modulus width → width ≡ Byte → with_free_bits width (place.InRegister Sr) bits y < 256
+byte_held : (width : Width) (bits y sr : ℕ) → y ≡ sr % modulus width → width ≡ Byte
+    → with_free_bits width (place.InRegister Sr) bits y < 256
 byte_held Words bits y sr is e = absurd (cc)
 byte_held Byte bits y sr is e = omega (arith, is)
 
 bits_agree : (laws : StatusLaws) {device : Device} {framed : Bool} {a : Known} {s : ChipState} {first : Option ChipState} {len : ℕ} {done : Operation} {width : Width}
     {origin : Source} {outcome : Outcome ChipState}
-    → sets_flags done ≡ false → IsUnder device framed a s first → IsSource origin → (may : MayDouble device s len done width origin (destination.Register Sr) outcome)
+    → sets_flags done ≡ false → IsUnder device framed a s first → IsSource origin
+    → (may : MayDouble device s len done width origin (destination.Register Sr) outcome)
     → let counted = single ((register_of s 0 + len) % 65536) in let word = operand_word device a counted width (source_reach (register_of s 0) a counted origin) in
     let x = source_number s may.counted width origin may.bits may.x in let y = with_free_bits width (place.InRegister Sr) may.bits may.y in
     Agrees (moved_bits done width (source_bits a width origin word) a.status.bits) (number_behind done x y (complement width x) % 512)
@@ -181,14 +191,17 @@ bits_agree laws {device} {a} {s} {len} {done} {width} {origin} none under from_s
 
 -- THE LAW
 
-kept_bits : (done : Operation) (width : Width) (given held : List Tri) → sets_flags done ≡ false → moved_bits done width given held ≡ status_bits done width given held
+kept_bits : (done : Operation) (width : Width) (given held : List Tri) → sets_flags done ≡ false
+    → moved_bits done width given held ≡ status_bits done width given held
 kept_bits done width given held none = sym (cond-false (sets_flags done) free_bits (moved_bits done width given held) none)
 
-any_bits : (done : Operation) (width : Width) (given held : List Tri) → sets_flags done ≡ true → free_bits ≡ status_bits done width given held
+any_bits : (done : Operation) (width : Width) (given held : List Tri) → sets_flags done ≡ true
+    → free_bits ≡ status_bits done width given held
 any_bits done width given held some = sym (cond-true (sets_flags done) free_bits (moved_bits done width given held) some)
 
 -- SR is free, where the operation sets flags
-status_freed : {device : Device} {ram registers : List ℕ} {done : Operation} {width : Width} {x y carry : ℕ} {left : Left} → sets_flags done ≡ true
+status_freed : {device : Device} {ram registers : List ℕ} {done : Operation} {width : Width} {x y carry : ℕ} {left : Left}
+    → sets_flags done ≡ true
     → MayLeaveDouble device ram registers done width (place.InRegister Sr) x y carry left → LeavesFree registers ram left
 status_freed some (FreeStatus free freed) = freed
 status_freed some (OfResult other made_so may is) = absurd (false≢true (sym other ∙ ap (λ b. b && true) some))
@@ -235,7 +248,8 @@ status_law laws device framed a s first len done width origin outcome under from
     subst (λ list. HoldsOfParts device grown_so first list s.ram) (set-get_or registers 2 0) (grown_parts laws under from_so may) in
     written_is laws.known.sets.single next long (omega arith) counter (λ r low. refl) holds (bits_written laws under from_so may)
 
-no_access : (device : Device) (there : Bool) (pc : ℕ) (write : Bool) (width : Width) (register : Register) → access_if there device pc write width (InRegister register) ≡ []
+no_access : (device : Device) (there : Bool) (pc : ℕ) (write : Bool) (width : Width) (register : Register)
+    → access_if there device pc write width (InRegister register) ≡ []
 no_access device true pc write width register = refl
 no_access device false pc write width register = refl
 
@@ -259,11 +273,13 @@ status_shown laws device framed a s first len done width origin outcome under fr
     let alone : AreShown reads singles = subst (λ list. AreShown list singles) (append-nil (reads ++ []) ∙ append-nil reads) second_so in
     subst (λ set. AreShown (access_of device pc false width (source_reach pc a set origin)) singles) (counter_one laws pc len origin Sr) alone
 
-length_status : (done : Operation) (width : Width) (given held : List Tri) → length given ≡ 9 → length held ≡ 9 → length (status_bits done width given held) ≡ 9
+length_status : (done : Operation) (width : Width) (given held : List Tri) → length given ≡ 9 → length held ≡ 9
+    → length (status_bits done width given held) ≡ 9
 length_status done width given held long nine =
     cond_both (sets_flags done) free_bits (moved_bits done width given held) (λ bits. length bits ≡ 9) (λ e. length_free) (λ e. length_moved done width given held long nine)
 
-pub status_form : (laws : StatusLaws) (device : Device) (framed : Bool) (a : Known) (pc len : ℕ) (done : Operation) (width : Width) (origin : Source) → IsDevice device
+pub status_form : (laws : StatusLaws) (device : Device) (framed : Bool) (a : Known) (pc len : ℕ) (done : Operation) (width : Width) (origin : Source)
+    → IsDevice device
     → IsKnown device.ram.lo device.ram.hi framed a → IsSource origin
     → IsKnown device.ram.lo device.ram.hi framed (status_worked device framed a pc len done width origin).after
 unfolding status_worked

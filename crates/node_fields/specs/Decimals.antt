@@ -49,7 +49,8 @@ one_only a n passes same =
     let digit : 48 + n ≡ a = omega (arith, least, same) in
     (omega (arith, most, same), rw (lt-ltb n 10 (omega (arith, most, same)), digit) refl)
 
-two_only : (a b n : ℕ) → (nat_lt 48 a && (nat_le a 57 && is_decimal b)) ≡ true → (a - 48) * 10 + (b - 48) ≡ n → (n < 100) × (decimal_text n ≡ a ∷ b ∷ [])
+two_only : (a b n : ℕ) → (nat_lt 48 a && (nat_le a 57 && is_decimal b)) ≡ true → (a - 48) * 10 + (b - 48) ≡ n
+    → (n < 100) × (decimal_text n ≡ a ∷ b ∷ [])
 two_only a b n passes same =
     let first = and_parts (nat_lt 48 a) _ passes in
     let second = and_parts (nat_le a 57) _ first.1 in

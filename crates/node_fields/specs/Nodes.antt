@@ -85,7 +85,8 @@ node_parts (At pc calls frame) = inl (pc, (calls, frame))
 node_parts (Exit pc frame) = inr (pc, frame)
 
 abbrev pub IsNodeText : (digits : ℕ) → Node → Type 0
-IsNodeText digits (At pc calls frame) = (pc < 65536) × AllByRecursion (λ site. site < 65536) calls × (length calls ≤ 8) × IsFrameText digits frame
+IsNodeText digits (At pc calls frame) =
+    (pc < 65536) × AllByRecursion (λ site. site < 65536) calls × (length calls ≤ 8) × IsFrameText digits frame
 IsNodeText digits (Exit pc frame) = (pc < 65536) × IsFrameText digits frame
 
 -- the location and the exit of a text, without the letter
@@ -159,15 +160,18 @@ irq_is_exact digits =
     (beside_is_exact 64 decimal_field (entry_field digits) decimal_is_exact
     (beside_is_exact 46 (sp_field digits) level_field (sp_is_exact digits) level_is_exact (sp_avoids digits 46 refl refl)) (decimal_avoids 64 refl))
 
-frame_back : (digits : ℕ) (parts : Option (ℕ × (Option ℕ × ℕ))) → (or_mark (irq_field digits) (codes "base")).Form parts → frame_parts (frame_of parts) ≡ parts
+frame_back : (digits : ℕ) (parts : Option (ℕ × (Option ℕ × ℕ))) → (or_mark (irq_field digits) (codes "base")).Form parts
+    → frame_parts (frame_of parts) ≡ parts
 frame_back digits None form = refl
 frame_back digits (Some parts) form = refl
 
-frame_narrow : (digits : ℕ) (frame : Frame) → IsFrameText digits frame → (told_by (or_mark (irq_field digits) (codes "base")) frame_of frame_parts).Form frame
+frame_narrow : (digits : ℕ) (frame : Frame) → IsFrameText digits frame
+    → (told_by (or_mark (irq_field digits) (codes "base")) frame_of frame_parts).Form frame
 frame_narrow digits Base form = (tt, refl)
 frame_narrow digits (Irq vector sp level) form = ((form.0, (form.1, (omega (arith, form.2), lt-ltb level 10 form.2))), refl)
 
-frame_wide : (digits : ℕ) (frame : Frame) → (told_by (or_mark (irq_field digits) (codes "base")) frame_of frame_parts).Form frame → IsFrameText digits frame
+frame_wide : (digits : ℕ) (frame : Frame)
+    → (told_by (or_mark (irq_field digits) (codes "base")) frame_of frame_parts).Form frame → IsFrameText digits frame
 frame_wide digits Base form = tt
 frame_wide digits (Irq vector sp level) form = (form.0.0, form.0.1.0, ltb-true level 10 form.0.1.1.1)
 
@@ -226,7 +230,8 @@ location_is_exact digits =
     (beside_is_exact 58 calls_field (frame_field digits) calls_is_exact (frame_is_exact digits) (calls_avoid 58 refl refl)) (number_avoids 4 58 refl)
 
 exit_is_exact : (digits : ℕ) → IsExact (exit_field digits)
-exit_is_exact digits = beside_is_exact 58 (hex_number 4) (frame_field digits) (hex_number_is_exact 4) (frame_is_exact digits) (number_avoids 4 58 refl)
+exit_is_exact digits =
+    beside_is_exact 58 (hex_number 4) (frame_field digits) (hex_number_is_exact 4) (frame_is_exact digits) (number_avoids 4 58 refl)
 
 location_avoids : (digits at : ℕ) → IsForeign at → Avoids (location_field digits) at
 location_avoids digits at foreign =
@@ -261,7 +266,8 @@ node_is_exact digits =
 
 -- a node is in one line
 pub node_in_one_line : (digits : ℕ) (node : Node) → IsNodeText digits node → has_byte 10 ((node_field digits).text node) ≡ false
-node_in_one_line digits (At pc calls frame) form = location_avoids digits 10 feed (pc, (calls, frame)) (form.0, ((form.1, le-leb (length calls) 8 form.2), form.3))
+node_in_one_line digits (At pc calls frame) form =
+    location_avoids digits 10 feed (pc, (calls, frame)) (form.0, ((form.1, le-leb (length calls) 8 form.2), form.3))
 node_in_one_line digits (Exit pc frame) form = exit_avoids digits 10 feed (pc, frame) (form.0, form.1)
 
 row_back : {A : Type 0} (digits : ℕ) (state : Node → Spelling A) (parts : RowParts A) → row_parts (row_of parts) ≡ parts
@@ -273,12 +279,15 @@ row_narrow : {A : Type 0} (digits : ℕ) (state : Node → Spelling A) (node : N
 row_narrow digits state (At pc calls frame) a form = (((form.0.0, ((form.0.1, le-leb (length calls) 8 form.0.2), form.0.3)), form.1), refl)
 row_narrow digits state (Exit pc frame) a form = (((form.0.0, form.0.1), form.1), refl)
 
-row_wide : {A : Type 0} (digits : ℕ) (state : Node → Spelling A) (node : Node) (a : A) → (told_by (parts_field digits state) row_of row_parts).Form (node, a)
+row_wide : {A : Type 0} (digits : ℕ) (state : Node → Spelling A) (node : Node) (a : A)
+    → (told_by (parts_field digits state) row_of row_parts).Form (node, a)
     → HasRowForm digits state (node, a)
-row_wide digits state (At pc calls frame) a form = ((form.0.0.0, form.0.0.1.0.0, leb-true (length calls) 8 form.0.0.1.0.1, form.0.0.1.1), form.0.1)
+row_wide digits state (At pc calls frame) a form =
+    ((form.0.0.0, form.0.0.1.0.0, leb-true (length calls) 8 form.0.0.1.0.1, form.0.0.1.1), form.0.1)
 row_wide digits state (Exit pc frame) a form = ((form.0.0.0, form.0.0.1), form.0.1)
 
-pub row_is_exact : {A : Type 0} (digits : ℕ) (state : Node → Spelling A) → ((node : Node) → IsExact (state node)) → IsExact (row_field digits state)
+pub row_is_exact : {A : Type 0} (digits : ℕ) (state : Node → Spelling A) → ((node : Node) → IsExact (state node))
+    → IsExact (row_field digits state)
 row_is_exact digits state h =
     restated_is_exact (told_by (parts_field digits state) row_of row_parts) (HasRowForm digits state)
     (told_by_is_exact (parts_field digits state) row_of row_parts
@@ -293,12 +302,14 @@ row_is_exact digits state h =
     (λ row form. row_narrow digits state row.0 row.1 form) (λ row form. row_wide digits state row.0 row.1 form)
 
 -- a row is read by its node first
-state_read : {P A : Type 0} (to : P → Node) (into : P × A → RowParts A) → ((p : P) (a : A) → row_of (into (p, a)) ≡ (to p, a)) → (p : P) (a : Option A)
+state_read : {P A : Type 0} (to : P → Node) (into : P × A → RowParts A)
+    → ((p : P) (a : A) → row_of (into (p, a)) ≡ (to p, a)) → (p : P) (a : Option A)
     → option_map row_of (option_map into (option_map (λ x. (p, x)) a)) ≡ option_map (λ x. (to p, x)) a
 state_read to into same p None = refl
 state_read to into same p (Some a) = ap Some (same p a)
 
-place_read : {P A : Type 0} (state : Node → Spelling A) (to : P → Node) (into : P × A → RowParts A) → ((p : P) (a : A) → row_of (into (p, a)) ≡ (to p, a))
+place_read : {P A : Type 0} (state : Node → Spelling A) (to : P → Node) (into : P × A → RowParts A)
+    → ((p : P) (a : A) → row_of (into (p, a)) ≡ (to p, a))
     → (text : List ℕ) (place : Option P)
     → option_map row_of (option_map into (option_and_then (λ p. option_map (λ a. (p, a)) ((state (to p)).value text)) place))
     ≡ option_and_then (λ (split : Node × List ℕ). option_map (λ a. (split.0, a)) ((state split.0).value split.1))
@@ -319,9 +330,11 @@ sides_read : {A : Type 0} (digits : ℕ) (state : Node → Spelling A) (first ot
     → option_map row_of (front_value (beside_by 32 (location_field digits) (λ parts. state (node_of (inl parts)))).value
     (beside_by 32 (exit_field digits) (λ parts. state (node_of (inr parts)))).value first other)
     ≡ option_and_then (λ (split : Node × List ℕ). option_map (λ a. (split.0, a)) ((state split.0).value split.1)) (split_behind digits first other)
-sides_read digits state (Some rest) other = cut_read state (location_field digits).value (λ parts. node_of (inl parts)) inl (λ p a. refl) (cut_at 32 rest)
+sides_read digits state (Some rest) other =
+    cut_read state (location_field digits).value (λ parts. node_of (inl parts)) inl (λ p a. refl) (cut_at 32 rest)
 sides_read digits state None None = refl
-sides_read digits state None (Some rest) = cut_read state (exit_field digits).value (λ parts. node_of (inr parts)) inr (λ p a. refl) (cut_at 32 rest)
+sides_read digits state None (Some rest) =
+    cut_read state (exit_field digits).value (λ parts. node_of (inr parts)) inr (λ p a. refl) (cut_at 32 rest)
 
 pub row_value : {A : Type 0} (digits : ℕ) (state : Node → Spelling A) (line : List ℕ)
     → (row_field digits state).value line ≡ option_and_then (λ (split : Node × List ℕ). option_map (λ a. (split.0, a)) ((state split.0).value split.1))

@@ -35,7 +35,8 @@ neither_is : (first second : Option Outside) → or_else first second ≡ None �
 neither_is None second none = (refl, none)
 neither_is (Some field) second none = absurd (none-some field (sym none))
 
-pub or_else_finds : {first second : Option Outside} {a b : Bool} → FindsNone first a → FindsNone second b → FindsNone (or_else first second) (a && b)
+pub or_else_finds : {first second : Option Outside} {a b : Bool} → FindsNone first a → FindsNone second b
+    → FindsNone (or_else first second) (a && b)
 or_else_finds {first = first} {second = second} {a = a} {b = b} one two = record {
   only = λ none. let both = neither_is first second none in and_from a b (one.only both.0) (two.only both.1);
   back = λ is. let parts = and_parts a b is in rw (one.back parts.0, two.back parts.1) refl;

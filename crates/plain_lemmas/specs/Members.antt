@@ -41,21 +41,24 @@ from_map f (first ∷ xs) y h = elim (in_cons (f first) (map f xs) y h) [
   | inr rest ↦ let (x, there, is) = from_map f xs y rest in (x, in_rest first xs x there, is)
 ]
 
-pub in_flat_map : {X Y : Type 0} (f : X → List Y) (xs : List X) (x : X) (y : Y) → Contains xs x → Contains (f x) y → Contains (flat_map f xs) y
+pub in_flat_map : {X Y : Type 0} (f : X → List Y) (xs : List X) (x : X) (y : Y) → Contains xs x → Contains (f x) y
+    → Contains (flat_map f xs) y
 in_flat_map f [] x y h g = absurd (in_none x h)
 in_flat_map f (first ∷ xs) x y h g = elim (in_cons first xs x h) [
   | inl same ↦ Contains-append_left (f first) (flat_map f xs) y (subst (λ z. Contains (f z) y) (sym same) g)
   | inr rest ↦ Contains-append_right (f first) (flat_map f xs) y (in_flat_map f xs x y rest g)
 ]
 
-pub from_flat_map : {X Y : Type 0} (f : X → List Y) (xs : List X) (y : Y) → Contains (flat_map f xs) y → (x : X) × Contains xs x × Contains (f x) y
+pub from_flat_map : {X Y : Type 0} (f : X → List Y) (xs : List X) (y : Y) → Contains (flat_map f xs) y
+    → (x : X) × Contains xs x × Contains (f x) y
 from_flat_map f [] y h = absurd (in_none y h)
 from_flat_map f (first ∷ xs) y h = elim (Contains-append_cases (f first) (flat_map f xs) y h) [
   | inl here ↦ (first, in_first first xs, here)
   | inr rest ↦ let (x, there, is) = from_flat_map f xs y rest in (x, in_rest first xs x there, is)
 ]
 
-pub from_values : {K X : Type 0} (pairs : List (K × X)) (value : X) → Contains (values_of pairs) value → (key : K) × Contains pairs (key, value)
+pub from_values : {K X : Type 0} (pairs : List (K × X)) (value : X) → Contains (values_of pairs) value
+    → (key : K) × Contains pairs (key, value)
 from_values [] value h = absurd (in_none value h)
 from_values {X = X} (pair ∷ pairs) value h = elim (in_cons pair.1 (values_of pairs) value h) [
   | inl same ↦ (pair.0, subst (λ (v : X). Contains (pair ∷ pairs) (pair.0, v)) same (in_first pair pairs))

@@ -20,7 +20,8 @@ IsAny a = Unit {0}
 -- the order of such parts
 pub any_ordered : {A : Type 0} {within : A → A → Bool} {made : A → A → A} {greatest : A} → ((a : A) → within a a ≡ true)
     → ((a b c : A) → within a b ≡ true → within b c ≡ true → within a c ≡ true)
-    → ((a b : A) → (within a (made a b) ≡ true) × (within b (made a b) ≡ true)) → ((a : A) → within a greatest ≡ true) → IsOrdered IsAny within made greatest
+    → ((a b : A) → (within a (made a b) ≡ true) × (within b (made a b) ≡ true)) → ((a : A) → within a greatest ≡ true)
+    → IsOrdered IsAny within made greatest
 any_ordered itself along both whole = record {
   itself = λ a any. itself a;
   along = along;
@@ -54,7 +55,8 @@ pub record Part {S A : Type 0} (Whole : S → Type 0) (Form : A → Type 0) : Ty
 
 -- what is made of two wholes is in form, and its part is made of their parts
 pub part_ordered : {S A : Type 0} {Whole : S → Type 0} {Form : A → Type 0} {within : A → A → Bool} {made : S → S → S} {parts : A → A → A} {greatest : S}
-    (part : Part Whole Form) → ((s t : S) → Whole s → Whole t → Whole (made s t)) → ((s t : S) → parts (part.of s) (part.of t) ≡ part.of (made s t))
+    (part : Part Whole Form) → ((s t : S) → Whole s → Whole t → Whole (made s t))
+    → ((s t : S) → parts (part.of s) (part.of t) ≡ part.of (made s t))
     → IsOrdered Form within parts (part.of greatest) → IsOrdered Whole (λ s t. within (part.of s) (part.of t)) made greatest
 part_ordered {within = within} part form is ordered = record {
   itself = λ s f. ordered.itself (part.of s) (part.formed s f);

@@ -14,7 +14,8 @@ use Rattle.value_set.specs.StepFacts.{steps_have}
 use Rattle.plain_lemmas.specs.Members.{in_cons, in_first, in_none, in_rest}
 
 -- the last number of a run before the turn
-before_turn_is : (base stride count : ℕ) → 0 < stride → 0 < count → base < 256 → (count - 1) * stride < 256 → 256 ≤ base + (count - 1) * stride
+before_turn_is : (base stride count : ℕ) → 0 < stride → 0 < count → base < 256 → (count - 1) * stride < 256
+    → 256 ≤ base + (count - 1) * stride
     → Contains (steps 256 base stride count) (255 - (255 - base) % stride)
 before_turn_is base stride count pos some small once turns =
     let last = count - 1 in
@@ -104,12 +105,14 @@ last_below low (x ∷ y ∷ xs) h = last_below (x + 1) (y ∷ xs) h.2
 last_is : (xs ys : List ℕ) (v : ℕ) → ys ≡ xs → Some v ≡ slice_get ys (length ys - 1) → last_value xs ≡ Some v
 last_is xs ys v f g = sym (last_found xs) ∙ ap (λ zs. slice_get zs (length zs - 1)) (sym f) ∙ sym g
 
-pub list_below : (set : Form) (xs ys : List ℕ) (v : ℕ) → IsNormal 256 set → set ≡ Values xs → ys ≡ xs → Some v ≡ slice_get ys (length ys - 1) → v < 256
+pub list_below : (set : Form) (xs ys : List ℕ) (v : ℕ) → IsNormal 256 set → set ≡ Values xs → ys ≡ xs
+    → Some v ≡ slice_get ys (length ys - 1) → v < 256
 list_below set xs ys v normal e f g =
     let normal_list : IsNormal 256 (Values xs) = subst (IsNormal 256) e normal in
     subst (λ r. IfSome r (λ n. n < 256)) (last_is xs ys v f g) (last_below 0 xs normal_list.2)
 
-pub list_greatest : (set : Form) (xs ys : List ℕ) (v : ℕ) → IsNormal 256 set → set ≡ Values xs → ys ≡ xs → Some v ≡ slice_get ys (length ys - 1)
+pub list_greatest : (set : Form) (xs ys : List ℕ) (v : ℕ) → IsNormal 256 set → set ≡ Values xs → ys ≡ xs
+    → Some v ≡ slice_get ys (length ys - 1)
     → IsGreatest set v
 list_greatest set xs ys v normal e f g =
     subst (λ r. IfSome r (IsGreatest set)) (ap greatest_byte e ∙ last_is xs ys v f g) (greatest_byte_is set normal)

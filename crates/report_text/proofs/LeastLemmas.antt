@@ -25,7 +25,8 @@ next_multiple gap stride i far more =
     ]
 
 -- the first number behind the turn, of a run whose i-th number is this one
-behind_turn : (base stride last i w : ℕ) → 0 < stride → base < 65536 → last * stride < 65536 → 65536 ≤ base + last * stride → i * stride ≤ last * stride
+behind_turn : (base stride last i w : ℕ) → 0 < stride → base < 65536 → last * stride < 65536
+    → 65536 ≤ base + last * stride → i * stride ≤ last * stride
     → w ≡ (base + i * stride) % 65536 → (stride - (65536 - base) % stride) % stride ≤ w
 behind_turn base stride last i w pos small once turns most is =
     let gap = 65536 - base in
@@ -44,7 +45,8 @@ behind_turn base stride last i w pos small once turns most is =
     ]
 
 -- that number is one of the run
-behind_turn_is : (base stride count : ℕ) → 0 < stride → 0 < count → base < 65536 → (count - 1) * stride < 65536 → 65536 ≤ base + (count - 1) * stride
+behind_turn_is : (base stride count : ℕ) → 0 < stride → 0 < count → base < 65536 → (count - 1) * stride < 65536
+    → 65536 ≤ base + (count - 1) * stride
     → Contains (steps 65536 base stride count) ((stride - (65536 - base) % stride) % stride)
 behind_turn_is base stride count pos some small once turns =
     let last = count - 1 in
@@ -115,7 +117,8 @@ least_word_is (Run run) h =
     (λ e. tt) (λ e. (least_is run.base run.stride run.count h, λ v there. least_at_most run.base run.stride run.count v h there))
 
 -- what is found of a run that isn't whole, and of a list
-pub run_least : (set : Form) (run : Progression) (whole : Bool) (least : ℕ) → IsNormal 65536 set → set ≡ Run run → whole ≡ is_whole run → whole ≡ false
+pub run_least : (set : Form) (run : Progression) (whole : Bool) (least : ℕ) → IsNormal 65536 set → set ≡ Run run
+    → whole ≡ is_whole run → whole ≡ false
     → least ≡ least_in_run run → IsLeast set least
 run_least set run whole least normal e f g h =
     let found : least_word set ≡ Some least = ap least_word e ∙ ap (λ b. if b then None else Some (least_in_run run)) (sym f ∙ g) ∙ ap Some (sym h) in

@@ -49,7 +49,8 @@ module _ (op : ℕ → ℕ → ℕ) (along : (a b c : ℕ) → op (op a b) c ≡
         met_turned next so_far ∙ sym (met_along so_far so_far (number item)) ∙ ap (λ a. met a (number item)) (met_itself so_far) in
         ap (λ a. met a so_far) (sym before) ∙ met_along all next so_far ∙ ap (met all) first ∙ before
 
-    past_each : (items : List Item) (so_far : Option ℕ) (item : Item) → Contains items item → met (all_met so_far items) (number item) ≡ all_met so_far items
+    past_each : (items : List Item) (so_far : Option ℕ) (item : Item) → Contains items item
+        → met (all_met so_far items) (number item) ≡ all_met so_far items
     past_each [] so_far item there = absurd (in_none item there)
     past_each (first ∷ items) so_far item there =
         let next = met so_far (number first) in
@@ -64,7 +65,8 @@ module _ (op : ℕ → ℕ → ℕ) (along : (a b c : ℕ) → op (op a b) c ≡
         ]
 
     -- what is past each is past all
-    past_all : (items : List Item) (so_far far : Option ℕ) → met far so_far ≡ far → ((item : Item) → Contains items item → met far (number item) ≡ far)
+    past_all : (items : List Item) (so_far far : Option ℕ) → met far so_far ≡ far
+        → ((item : Item) → Contains items item → met far (number item) ≡ far)
         → met far (all_met so_far items) ≡ far
     past_all [] so_far far first each = first
     past_all (item ∷ items) so_far far first each =
@@ -92,7 +94,8 @@ module _ (op : ℕ → ℕ → ℕ) (along : (a b c : ℕ) → op (op a b) c ≡
       made (Some a) None = refl
       made (Some a) (Some b) = ap Some (meets a b)
 
-      all_made : (items : List Item) (so_far : Option ℕ) → ((item : Item) → Contains items item → deepest_in item ≡ option_map make (number item))
+      all_made : (items : List Item) (so_far : Option ℕ)
+          → ((item : Item) → Contains items item → deepest_in item ≡ option_map make (number item))
           → deepest_of (option_map make so_far) items ≡ option_map make (all_met so_far items)
       all_made [] so_far each = refl
       all_made (item ∷ items) so_far each =
@@ -122,14 +125,16 @@ byte_in (Instr pc bytes) = None
 byte_in (Edge origin target) = None
 byte_in (Access pc space write size at) = None
 
-is_word : (items : List Item) → HasNoByteStack items → (item : Item) → Contains items item → deepest_in item ≡ option_map Least (word_in item)
+is_word : (items : List Item) → HasNoByteStack items → (item : Item) → Contains items item
+    → deepest_in item ≡ option_map Least (word_in item)
 is_word items none (Stack pc (W values)) there = refl
 is_word items none (Stack pc (B values)) there = absurd (none pc values there)
 is_word items none (Instr pc bytes) there = refl
 is_word items none (Edge origin target) there = refl
 is_word items none (Access pc space write size at) there = refl
 
-is_byte : (items : List Item) → HasNoWordStack items → (item : Item) → Contains items item → deepest_in item ≡ option_map Greatest (byte_in item)
+is_byte : (items : List Item) → HasNoWordStack items → (item : Item) → Contains items item
+    → deepest_in item ≡ option_map Greatest (byte_in item)
 is_byte items none (Stack pc (W values)) there = absurd (none pc values there)
 is_byte items none (Stack pc (B values)) there = refl
 is_byte items none (Instr pc bytes) there = refl

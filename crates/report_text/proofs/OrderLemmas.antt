@@ -19,7 +19,8 @@ use Rattle.report_text.proofs.SetLemmas.{one_set}
 use Rattle.plain_lemmas.specs.Members.{from_flat_map, from_values, in_flat_map}
 use Rattle.plain_lemmas.specs.Cases.{one_test}
 
-flat_among : {X Y : Type 0} (f : X → List Y) (xs ys : List X) → ((x : X) → Contains xs x → Contains ys x) → (y : Y) → Contains (flat_map f xs) y
+flat_among : {X Y : Type 0} (f : X → List Y) (xs ys : List X) → ((x : X) → Contains xs x → Contains ys x) → (y : Y)
+    → Contains (flat_map f xs) y
     → Contains (flat_map f ys) y
 flat_among f xs ys are y there = let found = from_flat_map f xs y there in in_flat_map f ys found.0 y (are found.0 found.1) found.2
 
@@ -28,7 +29,8 @@ module _ {A : Type 0} where
       → are_closed others ≡ true
   closed_among works others are closed = all_closed others (λ work there. none_open works closed work (are work there))
 
-  pub one_report : (text : ℕ → List ℕ → List ℕ) (finished : Bool) (works others : List (Work A)) → HaveSame works others → GrowsOneWay (items_of works)
+  pub one_report : (text : ℕ → List ℕ → List ℕ) (finished : Bool) (works others : List (Work A)) → HaveSame works others
+      → GrowsOneWay (items_of works)
       → report_of text finished works ≡ report_of text finished others
   one_report text finished works others same one_way =
       let are = λ (work : Work A). (same work).0 in
@@ -43,7 +45,8 @@ module _ {A : Type 0} where
 
   -- CLOSED BOOKS OF ONE TABLE
 
-  values_among : (works more : List (WorkUnit × Work A)) → ((pair : WorkUnit × Work A) → Contains works pair → Contains more pair) → (work : Work A)
+  values_among : (works more : List (WorkUnit × Work A))
+      → ((pair : WorkUnit × Work A) → Contains works pair → Contains more pair) → (work : Work A)
       → Contains (values_of works) work → Contains (values_of more) work
   values_among works more are work there =
       let found = from_values works work there in

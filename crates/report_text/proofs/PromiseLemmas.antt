@@ -91,7 +91,8 @@ works_cover machine text works closed covering = record {
 }
 
 -- the report of a closed book says CLOSED, covers every run, and shows its table
-pub closed_covers : {S A : Type 0} (machine : Machine S) (text : ℕ → List ℕ → List ℕ) (works : List (WorkUnit × Work A)) → NoneIsOpen (values_of works)
+pub closed_covers : {S A : Type 0} (machine : Machine S) (text : ℕ → List ℕ → List ℕ) (works : List (WorkUnit × Work A))
+    → NoneIsOpen (values_of works)
     → AreCovering machine (values_of works) → CoversEveryRun machine text (closed_report text works)
 closed_covers machine text works none covering = works_cover machine text (values_of works) (all_closed (values_of works) none) covering
 
@@ -115,8 +116,10 @@ book_shows text m journal listed worked unit at exit item over h =
     report_has_item text (last_works m journal) (m.work unit at exit) item
     (subst (Contains (last_works m journal)) is_work (listed unit done is_unit found)) h
 
-pub covers_every : {S A : Type 0} (machine : Machine S) (text : ℕ → List ℕ → List ℕ) (m : Analysis A) (journal : List Event) → ClosedCovers machine m journal
-    → IsLegalJournal m journal → IsFinished (replay m journal) → are_closed (last_works m journal) ≡ true → CoversEveryRun machine text (report_of_journal text m journal)
+pub covers_every : {S A : Type 0} (machine : Machine S) (text : ℕ → List ℕ → List ℕ) (m : Analysis A) (journal : List Event)
+    → ClosedCovers machine m journal
+    → IsLegalJournal m journal → IsFinished (replay m journal) → are_closed (last_works m journal) ≡ true
+    → CoversEveryRun machine text (report_of_journal text m journal)
 covers_every machine text m journal cover legal finished closed =
     works_cover machine text (last_works m journal) closed (cover legal finished (none_open (last_works m journal) closed))
 

@@ -26,7 +26,8 @@ Rises (x ∷ xs) = AreAbove x xs × Rises xs
 
 -- A SET RISES
 
-all_put : (P : List ℕ → Type 0) (set : List (List ℕ)) (line : List ℕ) → AllByRecursion P set → P line → AllByRecursion P (insert_key order set line)
+all_put : (P : List ℕ → Type 0) (set : List (List ℕ)) (line : List ℕ) → AllByRecursion P set → P line
+    → AllByRecursion P (insert_key order set line)
 all_put P [] line all p = (p, tt)
 all_put P (x ∷ xs) line all p = let rest = all_put P xs line all.1 p in
     elim (order line x) as (λ o. AllByRecursion P (match_ordering o (line ∷ x ∷ xs) (x ∷ xs) (x ∷ insert_key order xs line))) [

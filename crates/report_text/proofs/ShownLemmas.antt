@@ -90,7 +90,8 @@ head_ends true = (codes "CLOSED", refl)
 head_ends false = (codes "OPEN", refl)
 
 -- the report has each line that is put into it
-pub report_has : (closed : Bool) (lines : List (List ℕ)) (deepest : Option Deepest) (line : List ℕ) → Contains lines line → HasLine (report_text closed lines deepest) line
+pub report_has : (closed : Bool) (lines : List (List ℕ)) (deepest : Option Deepest) (line : List ℕ)
+    → Contains lines line → HasLine (report_text closed lines deepest) line
 report_has closed lines deepest line h =
     let head = head_ends closed in
     let body = flat_map (λ l. l ++ 10 ∷ []) lines in
@@ -98,7 +99,8 @@ report_has closed lines deepest line h =
     subst (λ front. HasLine ((front ++ body) ++ summary_of deepest lines) line) (sym head.1) within
 
 -- the report of works has the line of each item, and of each open
-pub report_has_item : {A : Type 0} (text : ℕ → List ℕ → List ℕ) (works : List (Work A)) (work : Work A) (item : Item) → Contains works work → Contains work.items item
+pub report_has_item : {A : Type 0} (text : ℕ → List ℕ → List ℕ) (works : List (Work A)) (work : Work A) (item : Item)
+    → Contains works work → Contains work.items item
     → HasLine (report_of text true works) (item_line_of text item)
 report_has_item text works work item w i =
     report_has (are_closed works) (with_lines [] (flat_map (lines_of text) works)) (deepest_of _ (flat_map (λ w. w.items) works)) (item_line_of text item)

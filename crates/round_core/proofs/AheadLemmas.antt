@@ -32,7 +32,8 @@ module _ {A : Type 0} (m : Analysis A) where
 
   -- what was looked ahead of the next post, and of those behind it
   module _ (ns : List (Held A)) (p : Node × A) (ps : List (Node × A)) (rows rows' : List (Looked A)) where
-    pub next-still : (now : List (Held A)) (o : Option (Looked A)) → MatchOption o ((rows ≡ []) × (rows' ≡ [])) (λ first. rows ≡ first ∷ rows')
+    pub next-still : (now : List (Held A)) (o : Option (Looked A))
+        → MatchOption o ((rows ≡ []) × (rows' ≡ [])) (λ first. rows ≡ first ∷ rows')
         → AllStay ns now → AreBefore m ns (p ∷ ps) rows → IfSome o (IsStill m now p)
     next-still now None first stay b = tt
     next-still now (Some l) first stay b =

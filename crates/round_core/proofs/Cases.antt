@@ -45,7 +45,8 @@ get-bound [] i x h = absurd (cc)
 get-bound (y ∷ xs) zero x h = omega arith
 get-bound (y ∷ xs) (suc i) x h = let e = get-bound xs i x h in omega arith
 
-pub get-map : {X Y : Type 0} → (f : X → Y) (xs : List X) (i : ℕ) (y : Y) → slice_get (map f xs) i ≡ Some y → (x : X) × (slice_get xs i ≡ Some x) × (y ≡ f x)
+pub get-map : {X Y : Type 0} → (f : X → Y) (xs : List X) (i : ℕ) (y : Y) → slice_get (map f xs) i ≡ Some y
+    → (x : X) × (slice_get xs i ≡ Some x) × (y ≡ f x)
 get-map f [] i y h = absurd (cc)
 get-map f (x ∷ xs) zero y h = let e : y ≡ f x = cc in (x, refl, e)
 get-map f (x ∷ xs) (suc i) y h = get-map f xs i y h
@@ -71,7 +72,8 @@ pub is_none_of : {X : Type 0} → (o : Option X) → false ≡ is_some o → o �
 is_none_of None h = refl
 is_none_of (Some x) h = absurd (cc)
 
-pub then_some : {X Y : Type 0} → (f : X → Option Y) (o : Option X) (y : Y) → option_and_then f o ≡ Some y → (x : X) × (o ≡ Some x) × (f x ≡ Some y)
+pub then_some : {X Y : Type 0} → (f : X → Option Y) (o : Option X) (y : Y) → option_and_then f o ≡ Some y
+    → (x : X) × (o ≡ Some x) × (f x ≡ Some y)
 then_some f None y h = absurd (cc)
 then_some f (Some x) y h = (x, refl, h)
 

@@ -27,7 +27,8 @@ module _ {A : Type 0} (m : Analysis A) where
   abbrev ticket : ℕ → WorkUnit → A → Option A → Versions → List (Held A) → Out A
   ticket seat u at exit versions nodes = record { seat = seat; unit = u; at = at; exit = exit; versions = versions; nodes = nodes }
 
-  out-is : (b : BookState A) (seat : ℕ) (u : WorkUnit) (t : Out A) → IsTicketOf b.nodes seat u t → with_out b seat u (inputs_of b.nodes u) ≡ b.out ++ t ∷ []
+  out-is : (b : BookState A) (seat : ℕ) (u : WorkUnit) (t : Out A) → IsTicketOf b.nodes seat u t
+      → with_out b seat u (inputs_of b.nodes u) ≡ b.out ++ t ∷ []
   out-is b seat u t k =
       ap (λ i. with_out b seat u i) k.inputs_are
       ∙ ap₂ (λ s v. b.out ++ ticket s v t.at t.exit (versions_of b.nodes u) b.nodes ∷ []) (sym k.seat_is) (sym k.unit_is)
@@ -41,7 +42,8 @@ module _ {A : Type 0} (m : Analysis A) where
 
   -- the book behind a claim
   pub claimed : (journal : List Event) (p p' : Parts A) (seat : ℕ) (u : WorkUnit) (place : Place) (t : Out A)
-      → Shows (replay m journal) p → IsFirst (replay m journal) u → placed (replay m journal).nodes u ≡ Some place → IsTicketOf p.nodes.rows seat u t
+      → Shows (replay m journal) p → IsFirst (replay m journal) u → placed (replay m journal).nodes u ≡ Some place
+      → IsTicketOf p.nodes.rows seat u t
       → p'.turns.journal ≡ journal ++ Claim seat u ∷ [] → Shows (behind (replay m journal) ((replay m journal).out ++ t ∷ [])) p'
       → Shows (replay m p'.turns.journal) p' × (out_at (replay m p'.turns.journal).out t.unit ≡ Some t)
   claimed journal p p' seat u place t s first at k e s' =
@@ -60,7 +62,8 @@ module _ {A : Type 0} (m : Analysis A) where
       subst (λ c. Shows c p') (sym (ap (λ j. replay m j) e ∙ replay-more m journal (GiveBack seat u) ∙ after-give_back m (replay m journal) seat u)) s
 
 -- parts that stand for the same books, with the same journal
-pub book-stays : {A : Type 0} (m : Analysis A) (p p' : Parts A) → StaysShown p p' → p'.turns.journal ≡ p.turns.journal → IsBook m p.turns.journal p
+pub book-stays : {A : Type 0} (m : Analysis A) (p p' : Parts A) → StaysShown p p' → p'.turns.journal ≡ p.turns.journal
+    → IsBook m p.turns.journal p
     → IsBook m p'.turns.journal p'
 book-stays m p p' stays same book = record {
   shows = subst (λ j. Shows (replay m j) p') (sym same) (stays (replay m p.turns.journal) book.shows);

@@ -21,7 +21,8 @@ use Rattle.round_core.proofs.Cases.{truth, if_true, if_false, next_place, then_s
 use Rattle.round_core.proofs.PlaceLemmas.{IsBefore}
 
 module _ {A : Type 0} where
-  pub held-place : (hs : List (Held A)) (n : Node) (i : ℕ) → place_of hs n ≡ Some i → (h : Held A) × (held_at hs n ≡ Some h) × (slice_get hs i ≡ Some h) × (h.node ≡ n)
+  pub held-place : (hs : List (Held A)) (n : Node) (i : ℕ) → place_of hs n ≡ Some i
+      → (h : Held A) × (held_at hs n ≡ Some h) × (slice_get hs i ≡ Some h) × (h.node ≡ n)
   held-place [] n i p = absurd (cc)
   held-place (h ∷ hs) n i p = elim (truth (same_node n h.node)) [
     | inl s ↦
@@ -56,7 +57,8 @@ module _ {A : Type 0} where
   ]
 
   -- in a list without repeats, a row's node has the row's place
-  pub get-place : (hs : List (Held A)) → AreDistinct hs → (i : ℕ) (h : Held A) → slice_get hs i ≡ Some h → (place_of hs h.node ≡ Some i) × (held_at hs h.node ≡ Some h)
+  pub get-place : (hs : List (Held A)) → AreDistinct hs → (i : ℕ) (h : Held A) → slice_get hs i ≡ Some h
+      → (place_of hs h.node ≡ Some i) × (held_at hs h.node ≡ Some h)
   get-place [] d i h e = absurd (cc)
   get-place (g ∷ hs) d zero h e =
       let same : g ≡ h = cc in
@@ -101,7 +103,8 @@ module _ {A : Type 0} where
     one-unit (At pc calls frame) h u e o = let same : unit.One (At pc calls frame) ≡ u = cc in (subst (λ v. IsUnit b v) same (h, e), sym same)
     one-unit (Exit pc frame) h u e o = absurd (cc)
 
-    back-unit : (n x : Node) (h g : Held A) (u : WorkUnit) → held_at b.nodes n ≡ Some h → held_at b.nodes x ≡ Some g → back_of b.done n x ≡ Some u → IsUnit b u × (u ≡ unit.Back n x)
+    back-unit : (n x : Node) (h g : Held A) (u : WorkUnit) → held_at b.nodes n ≡ Some h → held_at b.nodes x ≡ Some g
+        → back_of b.done n x ≡ Some u → IsUnit b u × (u ≡ unit.Back n x)
     back-unit (At pc calls frame) (Exit from left) h g u e f o =
         let w = if_some (waits_for b.done (At pc calls frame) left) (unit.Back (At pc calls frame) (Exit from left)) u o in
         (subst (λ v. IsUnit b v) w.1 (h, g, e, f, w.0), sym w.1)
@@ -158,7 +161,8 @@ module _ {A : Type 0} where
         at_home u (Some o) e h = let s = gone u o e in let bad : true ≡ false = sym s ∙ h in absurd (cc)
 
         -- what is found at a place can be claimed, and has that place
-        pub claimable_at-is : (p : Place) (u : WorkUnit) → claimable_at b.nodes b.done out p ≡ Some u → IsClaimable b u × (placed b.nodes u ≡ Some p)
+        pub claimable_at-is : (p : Place) (u : WorkUnit) → claimable_at b.nodes b.done out p ≡ Some u
+            → IsClaimable b u × (placed b.nodes u ≡ Some p)
         claimable_at-is p u e =
             let r = then_some (λ (v : WorkUnit). if is_some (place_out out v) then None else if due_of (done_at b.done v) (versions_of b.nodes v) then Some v else None) (unit_at b.nodes b.done p) u e in
             let s = unless_some _ _ u r.2 in
@@ -172,7 +176,8 @@ module _ {A : Type 0} where
             (subst (λ v. IsClaimable b v) t.1 claimable, ap (λ v. placed b.nodes v) (sym t.1) ∙ k.1)
 
         -- what can be claimed is found at its place
-        pub claimable_at-finds : (u : WorkUnit) (p : Place) → IsClaimable b u → placed b.nodes u ≡ Some p → claimable_at b.nodes b.done out p ≡ Some u
+        pub claimable_at-finds : (u : WorkUnit) (p : Place) → IsClaimable b u → placed b.nodes u ≡ Some p
+            → claimable_at b.nodes b.done out p ≡ Some u
         claimable_at-finds u p k e =
             ap (λ o. option_and_then (λ (v : WorkUnit). if is_some (place_out out v) then None else if due_of (done_at b.done v) (versions_of b.nodes v) then Some v else None) o) (known-unit_at u p k.known e)
             ∙ if_false _ _ _ (ap (λ o. is_some o) (home u k.at_home))
@@ -215,7 +220,8 @@ module _ {A : Type 0} where
       ap₂ (λ a b. unit.Back a b) (place_one hs n m j.0 (i.1 ∙ ap (λ r. Some r) first) j.1) (place_one hs x y k.0 (l.1 ∙ ap (λ r. Some r) second) k.1)
 
   -- the order of units is the order of their places
-  pub before-places : (hs : List (Held A)) (u v : WorkUnit) (p q : Place) → placed hs u ≡ Some p → placed hs v ≡ Some q → ComesBefore hs u v → IsBefore p q
+  pub before-places : (hs : List (Held A)) (u v : WorkUnit) (p q : Place) → placed hs u ≡ Some p → placed hs v ≡ Some q
+      → ComesBefore hs u v → IsBefore p q
   before-places hs (unit.One n) (unit.One m) p q e f h =
       let i = map_some (λ (i : ℕ). place.One i) (place_of hs n) p e in
       let j = map_some (λ (i : ℕ). place.One i) (place_of hs m) q f in

@@ -43,7 +43,8 @@ after-claim_out m b seat unit f =
     )
 
 -- a post leaves its unit at home, with the work of what was out
-pub after-post_done : {A : Type 0} (m : Analysis A) (b : BookState A) (seat : ℕ) (unit : WorkUnit) (o : Out A) → IsSteady m b → out_at b.out unit ≡ Some o
+pub after-post_done : {A : Type 0} (m : Analysis A) (b : BookState A) (seat : ℕ) (unit : WorkUnit) (o : Out A)
+    → IsSteady m b → out_at b.out unit ≡ Some o
     → (out_at (after m b (Post seat unit)).out unit ≡ None) × (done_at (after m b (Post seat unit)).done unit ≡ Some (done_by m o))
 after-post_done m b seat unit o s e =
     let n : o.unit ≡ unit = (out_at-all (λ x. Unit {0}) b.out unit o (all-any b.out) e).1 in
@@ -59,7 +60,8 @@ after-give_back_home m b seat unit s =
     (ap (λ x. out_at x.out unit) e ∙ out_at-without b.out unit s.once, ap (λ x. done_at x.done unit) e)
 
 -- an event leaves the other units as they were
-pub after-other : {A : Type 0} (m : Analysis A) (b : BookState A) (event : Event) (unit : WorkUnit) → IsLegal b event → same_unit unit (unit_of event) ≡ false
+pub after-other : {A : Type 0} (m : Analysis A) (b : BookState A) (event : Event) (unit : WorkUnit) → IsLegal b event
+    → same_unit unit (unit_of event) ≡ false
     → (out_at (after m b event).out unit ≡ out_at b.out unit) × (done_at (after m b event).done unit ≡ done_at b.done unit)
 after-other m b (Claim seat u) unit l ne =
     let i = inputs_of-unit b u l.claimable.known in
@@ -118,7 +120,8 @@ turn-own m seats b (GiveBack seat u) l s =
     let home : outs seats (out_at (after m b (GiveBack seat u)).out u) ≡ 0 = ap (outs seats) r.0 in
     omega (arith, a, home, out)
 
-turn-step : {A : Type 0} (m : Analysis A) (seats : ℕ → Bool) (unit : WorkUnit) (b : BookState A) (event : Event) → IsLegal b event → IsSteady m b
+turn-step : {A : Type 0} (m : Analysis A) (seats : ℕ → Bool) (unit : WorkUnit) (b : BookState A) (event : Event)
+    → IsLegal b event → IsSteady m b
     → Turn m seats unit b event
 turn-step m seats unit b event l s =
     elim (cases_Bool (same_unit unit (unit_of event))) [
@@ -127,7 +130,8 @@ turn-step m seats unit b event l s =
     ]
 
 -- Each claim is answered by a post or a give-back, but for a unit that is out.
-pub turns-replay_from : {A : Type 0} (m : Analysis A) (seats : ℕ → Bool) (unit : WorkUnit) (b : BookState A) (es : List Event) → AllLegal m b es → IsSteady m b
+pub turns-replay_from : {A : Type 0} (m : Analysis A) (seats : ℕ → Bool) (unit : WorkUnit) (b : BookState A) (es : List Event)
+    → AllLegal m b es → IsSteady m b
     → count_by (is_claim seats unit) es + outs seats (out_at b.out unit)
     ≡ count_by (is_post seats unit) es + count_by (is_give_back seats unit) es + outs seats (out_at (replay_from m b es).out unit)
 unfolding replay_from AllLegal
@@ -217,7 +221,8 @@ climb-step m unit b event l s n a =
     ]
 
 -- each post of a unit is of inputs that rose further
-pub climbs-replay_from : {A : Type 0} (m : Analysis A) (unit : WorkUnit) (b : BookState A) (es : List Event) → AllLegal m b es → IsSteady m b
+pub climbs-replay_from : {A : Type 0} (m : Analysis A) (unit : WorkUnit) (b : BookState A) (es : List Event)
+    → AllLegal m b es → IsSteady m b
     → AreRisen b.nodes → IsAhead unit b
     → IsAhead unit (replay_from m b es)
     × (count_by (is_post anyone unit) es + level (done_at b.done unit) ≤ level (done_at (replay_from m b es).done unit))
@@ -277,7 +282,8 @@ claims-most m keeps top unit journal l =
     omega (arith, t, c.1, o)
 
 -- Where a unit that is out is given back, it can be claimed anew if it still is a unit.
-pub given_back-claimable : {A : Type 0} (m : Analysis A) (b : BookState A) (seat : ℕ) (unit : WorkUnit) (o : Out A) → IsSteady m b → IsAhead unit b
+pub given_back-claimable : {A : Type 0} (m : Analysis A) (b : BookState A) (seat : ℕ) (unit : WorkUnit) (o : Out A)
+    → IsSteady m b → IsAhead unit b
     → out_at b.out unit ≡ Some o → IsUnit (after m b (GiveBack seat unit)) unit → IsClaimable (after m b (GiveBack seat unit)) unit
 given_back-claimable m b seat unit o s a e u =
     let r = after-give_back_home m b seat unit s in

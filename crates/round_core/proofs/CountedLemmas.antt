@@ -70,7 +70,8 @@ module _ {A : Type 0} (b : BookState A) where
     many : length units ≡ length places
 
   -- a unit of another place is another one
-  other_place : (q : Place) (places : List Place) (u v : WorkUnit) → (IsIn q places → ⊥) → placed b.nodes u ≡ Some q → HasPlaceIn places v → same_unit u v ≡ false
+  other_place : (q : Place) (places : List Place) (u v : WorkUnit) → (IsIn q places → ⊥) → placed b.nodes u ≡ Some q
+      → HasPlaceIn places v → same_unit u v ≡ false
   other_place q places u v none e h = elim (truth (same_unit u v)) [
     | inl t ↦
         let same : u ≡ v = same_unit-eq u v t in
@@ -81,7 +82,8 @@ module _ {A : Type 0} (b : BookState A) where
   ]
 
   -- distinct units have no fewer places
-  pub places_suffice : (units : List WorkUnit) (places : List Place) → IsDistinct same_unit units → AllByRecursion (HasPlaceIn places) units → length units ≤ length places
+  pub places_suffice : (units : List WorkUnit) (places : List Place) → IsDistinct same_unit units
+      → AllByRecursion (HasPlaceIn places) units → length units ≤ length places
   unfolding IsDistinct
   places_suffice [] places d h = omega arith
   places_suffice (u ∷ us) places d h =
@@ -94,7 +96,8 @@ module _ {A : Type 0} (b : BookState A) where
       let r = length-append t.0 t.1 in
       omega arith
     where
-      elsewhere : (u v : WorkUnit) (q : Place) (front back : List Place) → placed b.nodes u ≡ Some q → same_unit u v ≡ false → HasPlaceIn (front ++ q ∷ back) v → HasPlaceIn (front ++ back) v
+      elsewhere : (u v : WorkUnit) (q : Place) (front back : List Place) → placed b.nodes u ≡ Some q
+          → same_unit u v ≡ false → HasPlaceIn (front ++ q ∷ back) v → HasPlaceIn (front ++ back) v
       elsewhere u v q front back e other k = elim (IsIn-split k.0 front (q ∷ back) k.1) [
         | inl f ↦ (k.0, IsIn-append k.0 front back f, k.2)
         | inr s ↦ elim s [

@@ -22,26 +22,32 @@ same_unit-turned a b e =
     false_from_ne_true (same_unit b a) (λ t. let s : b ≡ a = same_unit-eq b a t in
     false≢true (sym e ∙ subst (λ x. same_unit a x ≡ true) (sym s) (same_unit-refl a)))
 
-pub done_at-here : {A : Type 0} (d : Done A) (ds : List (Done A)) (unit : WorkUnit) → same_unit unit d.unit ≡ true → done_at (d ∷ ds) unit ≡ Some d
+pub done_at-here : {A : Type 0} (d : Done A) (ds : List (Done A)) (unit : WorkUnit) → same_unit unit d.unit ≡ true
+    → done_at (d ∷ ds) unit ≡ Some d
 done_at-here d ds unit e = cond-true _ _ _ e
 
-pub done_at-there : {A : Type 0} (d : Done A) (ds : List (Done A)) (unit : WorkUnit) → same_unit unit d.unit ≡ false → done_at (d ∷ ds) unit ≡ done_at ds unit
+pub done_at-there : {A : Type 0} (d : Done A) (ds : List (Done A)) (unit : WorkUnit) → same_unit unit d.unit ≡ false
+    → done_at (d ∷ ds) unit ≡ done_at ds unit
 done_at-there d ds unit e = cond-false _ _ _ e
 
-pub out_at-here : {A : Type 0} (o : Out A) (os : List (Out A)) (unit : WorkUnit) → same_unit unit o.unit ≡ true → out_at (o ∷ os) unit ≡ Some o
+pub out_at-here : {A : Type 0} (o : Out A) (os : List (Out A)) (unit : WorkUnit) → same_unit unit o.unit ≡ true
+    → out_at (o ∷ os) unit ≡ Some o
 out_at-here o os unit e = cond-true _ _ _ e
 
-pub out_at-there : {A : Type 0} (o : Out A) (os : List (Out A)) (unit : WorkUnit) → same_unit unit o.unit ≡ false → out_at (o ∷ os) unit ≡ out_at os unit
+pub out_at-there : {A : Type 0} (o : Out A) (os : List (Out A)) (unit : WorkUnit) → same_unit unit o.unit ≡ false
+    → out_at (o ∷ os) unit ≡ out_at os unit
 out_at-there o os unit e = cond-false _ _ _ e
 
-pub with_done-here : {A : Type 0} (d : Done A) (ds : List (Done A)) (new : Done A) → same_unit new.unit d.unit ≡ true → with_done (d ∷ ds) new ≡ new ∷ ds
+pub with_done-here : {A : Type 0} (d : Done A) (ds : List (Done A)) (new : Done A) → same_unit new.unit d.unit ≡ true
+    → with_done (d ∷ ds) new ≡ new ∷ ds
 with_done-here d ds new e = cond-true _ _ _ e
 
 pub with_done-there : {A : Type 0} (d : Done A) (ds : List (Done A)) (new : Done A) → same_unit new.unit d.unit ≡ false
     → with_done (d ∷ ds) new ≡ d ∷ with_done ds new
 with_done-there d ds new e = cond-false _ _ _ e
 
-pub without-here : {A : Type 0} (o : Out A) (os : List (Out A)) (unit : WorkUnit) → same_unit unit o.unit ≡ true → without (o ∷ os) unit ≡ os
+pub without-here : {A : Type 0} (o : Out A) (os : List (Out A)) (unit : WorkUnit) → same_unit unit o.unit ≡ true
+    → without (o ∷ os) unit ≡ os
 without-here o os unit e = cond-true _ _ _ e
 
 pub without-there : {A : Type 0} (o : Out A) (os : List (Out A)) (unit : WorkUnit) → same_unit unit o.unit ≡ false
@@ -49,7 +55,8 @@ pub without-there : {A : Type 0} (o : Out A) (os : List (Out A)) (unit : WorkUni
 without-there o os unit e = cond-false _ _ _ e
 
 -- what holds of each entry that was done holds of the one that is found
-pub done_at-all : {A : Type 0} (P : Done A → Type 0) (ds : List (Done A)) (unit : WorkUnit) (d : Done A) → AllByRecursion P ds → done_at ds unit ≡ Some d
+pub done_at-all : {A : Type 0} (P : Done A → Type 0) (ds : List (Done A)) (unit : WorkUnit) (d : Done A)
+    → AllByRecursion P ds → done_at ds unit ≡ Some d
     → P d × (d.unit ≡ unit)
 done_at-all P [] unit d a e = absurd (cc)
 done_at-all P (k ∷ ds) unit d a e =
@@ -59,7 +66,8 @@ done_at-all P (k ∷ ds) unit d a e =
       | inr f ↦ done_at-all P ds unit d a.1 (sym (done_at-there k ds unit f) ∙ e)
     ]
 
-pub out_at-all : {A : Type 0} (P : Out A → Type 0) (os : List (Out A)) (unit : WorkUnit) (o : Out A) → AllByRecursion P os → out_at os unit ≡ Some o
+pub out_at-all : {A : Type 0} (P : Out A → Type 0) (os : List (Out A)) (unit : WorkUnit) (o : Out A)
+    → AllByRecursion P os → out_at os unit ≡ Some o
     → P o × (o.unit ≡ unit)
 out_at-all P [] unit o a e = absurd (cc)
 out_at-all P (k ∷ os) unit o a e =
@@ -90,7 +98,8 @@ pub all-push : {X : Type 0} (P : X → Type 0) (xs : List X) (x : X) → AllByRe
 all-push P [] x a p = (p, tt)
 all-push P (y ∷ xs) x a p = (a.0, all-push P xs x a.1 p)
 
-pub all-with_done : {A : Type 0} (P : Done A → Type 0) (ds : List (Done A)) (new : Done A) → AllByRecursion P ds → P new → AllByRecursion P (with_done ds new)
+pub all-with_done : {A : Type 0} (P : Done A → Type 0) (ds : List (Done A)) (new : Done A) → AllByRecursion P ds → P new
+    → AllByRecursion P (with_done ds new)
 all-with_done P [] new a p = (p, tt)
 all-with_done P (d ∷ ds) new a p =
     elim (cases_Bool (same_unit new.unit d.unit)) [
@@ -98,7 +107,8 @@ all-with_done P (d ∷ ds) new a p =
       | inr f ↦ subst (AllByRecursion P) (sym (with_done-there d ds new f)) (a.0, all-with_done P ds new a.1 p)
     ]
 
-pub all-without : {A : Type 0} (P : Out A → Type 0) (os : List (Out A)) (unit : WorkUnit) → AllByRecursion P os → AllByRecursion P (without os unit)
+pub all-without : {A : Type 0} (P : Out A → Type 0) (os : List (Out A)) (unit : WorkUnit) → AllByRecursion P os
+    → AllByRecursion P (without os unit)
 all-without P [] unit a = tt
 all-without P (o ∷ os) unit a =
     elim (cases_Bool (same_unit unit o.unit)) [
@@ -128,7 +138,8 @@ done_at-with_done_other (d ∷ ds) new unit ne =
       ]
     ]
 
-pub out_at-without_other : {A : Type 0} (os : List (Out A)) (gone unit : WorkUnit) → same_unit unit gone ≡ false → out_at (without os gone) unit ≡ out_at os unit
+pub out_at-without_other : {A : Type 0} (os : List (Out A)) (gone unit : WorkUnit) → same_unit unit gone ≡ false
+    → out_at (without os gone) unit ≡ out_at os unit
 out_at-without_other [] gone unit ne = refl
 out_at-without_other (o ∷ os) gone unit ne =
     elim (cases_Bool (same_unit gone o.unit)) [
@@ -235,12 +246,14 @@ up_to-unless_risen u v s n =
     (let no : (u.exit < v.exit → ⊥) = λ h. n (inr h) in omega (arith, s.exit))
 
 -- the versions of a unit never fall
-pub versions_of-later : {A : Type 0} (hs ls : List (Held A)) (unit : WorkUnit) → AllStay hs ls → AreUpTo (versions_of hs unit) (versions_of ls unit)
+pub versions_of-later : {A : Type 0} (hs ls : List (Held A)) (unit : WorkUnit) → AllStay hs ls
+    → AreUpTo (versions_of hs unit) (versions_of ls unit)
 versions_of-later hs ls (One node) s = record { at = version_of-later hs ls node s; exit = omega arith }
 versions_of-later hs ls (Back node exit) s = record { at = version_of-later hs ls node s; exit = version_of-later hs ls exit s }
 
 -- the inputs of a return whose nodes are there
-pub inputs_of-found : {A : Type 0} (hs : List (Held A)) (node exit : Node) (h x : Held A) → held_at hs node ≡ Some h → held_at hs exit ≡ Some x
+pub inputs_of-found : {A : Type 0} (hs : List (Held A)) (node exit : Node) (h x : Held A) → held_at hs node ≡ Some h
+    → held_at hs exit ≡ Some x
     → inputs_of hs (Back node exit) ≡ Some (h.state, Some x.state)
 inputs_of-found {A = A} hs node exit h x e d =
     let both : Option (Held A) → Option (Held A) → Option (A × Option A) =
@@ -255,12 +268,14 @@ back-by inputs (Some h) None e = absurd (cc)
 back-by inputs (Some h) (Some x) e = (h, x, refl, refl, sym (same_Some (h.state, Some x.state) inputs e))
 
 -- the nodes of a return whose inputs are there
-pub inputs_of-back : {A : Type 0} (hs : List (Held A)) (node exit : Node) (inputs : A × Option A) → inputs_of hs (Back node exit) ≡ Some inputs
+pub inputs_of-back : {A : Type 0} (hs : List (Held A)) (node exit : Node) (inputs : A × Option A)
+    → inputs_of hs (Back node exit) ≡ Some inputs
     → (h : Held A) × (x : Held A) × (held_at hs node ≡ Some h) × (held_at hs exit ≡ Some x) × (inputs ≡ (h.state, Some x.state))
 inputs_of-back hs node exit inputs e = back-by inputs (held_at hs node) (held_at hs exit) e
 
 -- inputs that are there stay there
-pub inputs_of-later : {A : Type 0} (hs ls : List (Held A)) (unit : WorkUnit) (inputs : A × Option A) → AllStay hs ls → inputs_of hs unit ≡ Some inputs
+pub inputs_of-later : {A : Type 0} (hs ls : List (Held A)) (unit : WorkUnit) (inputs : A × Option A) → AllStay hs ls
+    → inputs_of hs unit ≡ Some inputs
     → (later : A × Option A) × (inputs_of ls unit ≡ Some later)
 inputs_of-later hs ls (One node) inputs s e =
     let r = option_map-some (λ h. (h.state, None)) (held_at hs node) inputs e in
@@ -273,7 +288,8 @@ inputs_of-later hs ls (Back node exit) inputs s e =
     (((l.0).state, Some (k.0).state), inputs_of-found ls node exit l.0 k.0 l.1 k.1)
 
 -- and they are the same until one rises
-pub inputs_of-same : {A : Type 0} (hs ls : List (Held A)) (unit : WorkUnit) (inputs : A × Option A) → AllStay hs ls → inputs_of hs unit ≡ Some inputs
+pub inputs_of-same : {A : Type 0} (hs ls : List (Held A)) (unit : WorkUnit) (inputs : A × Option A) → AllStay hs ls
+    → inputs_of hs unit ≡ Some inputs
     → versions_of ls unit ≡ versions_of hs unit → inputs_of ls unit ≡ Some inputs
 inputs_of-same hs ls (One node) inputs s e v =
     let r = option_map-some (λ h. (h.state, None)) (held_at hs node) inputs e in

@@ -26,12 +26,14 @@ module _ {A : Type 0} (done : List (Done A)) where
   node-later old mid new (At pc calls frame) p g e = (g.candidates _ e.0, λ f w x h. g.candidates _ (e.1 f w x h))
   node-later old mid new (Exit pc frame) p g e = (g.exits frame p e.0, λ x h. g.candidates _ (e.1 x h))
 
-  pub node-earlier : (first old new : Agenda) (n : Node) (p : ℕ) → Grows first old → ExpectsNode done old new n p → ExpectsNode done first new n p
+  pub node-earlier : (first old new : Agenda) (n : Node) (p : ℕ) → Grows first old → ExpectsNode done old new n p
+      → ExpectsNode done first new n p
   node-earlier first old new (At pc calls frame) p g e = (e.0, λ f w x h. e.1 f w x (g.exits f x h))
   node-earlier first old new (Exit pc frame) p g e = (e.0, λ x h. e.1 x (g.waiting frame x h))
 
   -- the rows that a post raises are expected, each at its place
-  pub expects-rows : (old new : Agenda) (ns : List (Held A)) (rs : List (Risen A)) → ArePlaced ns rs → ((r : Risen A) → IsIn r rs → ExpectsNode done old new r.node r.place)
+  pub expects-rows : (old new : Agenda) (ns : List (Held A)) (rs : List (Risen A)) → ArePlaced ns rs
+      → ((r : Risen A) → IsIn r rs → ExpectsNode done old new r.node r.place)
       → ExpectsRows done old new (with_all ns (held_rows rs)) (held_rows rs)
   expects-rows old new ns rs a e row h =
       let r = in-map (λ (r : Risen A). held_of r) row rs h in (

@@ -47,7 +47,8 @@ module _ {A : Type 0} (tells : TellsEqual unit_eq) (rows : List (WorkUnit × (Wo
       lookup-done (One node) test (unit_eq-same tells (One node)) rows ∙ ap (option_map as_done) (at-none test rows (sym same_place ∙ sym e)) in
       ap waits_of (sym found)
 
-  pub waits-some : (works : List (WorkUnit × Work A)) → values_of works ≡ map work_of rows → (i : ℕ) → Some i ≡ position test (keys_of entries)
+  pub waits-some : (works : List (WorkUnit × Work A)) → values_of works ≡ map work_of rows → (i : ℕ)
+      → Some i ≡ position test (keys_of entries)
       → (b : WorkUnit × Work A) → i < length works → b ≡ slice_index_or works i b
       → list_any (same_frame frame) b.1.waits ≡ waits_for (map done_of rows) node frame
   waits-some works values i e b inside at =
@@ -102,7 +103,8 @@ module _ {W : Type 0} (live : WorkUnit → Bool) where
       let below : place < length (marked live place pairs) = omega arith in
       ap (λ t. marked_pair live pair ∷ t) (taken place pairs b below at s)
 
-  pub marks-live : (items : List (WorkUnit × W)) (place : ℕ) (pairs : List (WorkUnit × W)) (b : WorkUnit × W) → items ≡ marked live place pairs
+  pub marks-live : (items : List (WorkUnit × W)) (place : ℕ) (pairs : List (WorkUnit × W)) (b : WorkUnit × W)
+      → items ≡ marked live place pairs
       → place < length items → b ≡ slice_index_or items place b → live b.0 ≡ true → items ≡ marked live (place + 1) pairs
   marks-live items place pairs b are inside at s =
       let next : suc place ≡ place + 1 = omega arith in
@@ -110,8 +112,10 @@ module _ {W : Type 0} (live : WorkUnit → Bool) where
       (subst (λ (xs : List (WorkUnit × W)). b ≡ slice_index_or xs place b) are at) s
       ∙ ap (λ n. marked live n pairs) next
 
-  pub marks-dead : (items : List (WorkUnit × W)) (place : ℕ) (pairs : List (WorkUnit × W)) (b : WorkUnit × W) → items ≡ marked live place pairs
-      → place < length items → b ≡ slice_index_or items place b → live b.0 ≡ false → slice_set items place (no_unit, b.1) ≡ marked live (place + 1) pairs
+  pub marks-dead : (items : List (WorkUnit × W)) (place : ℕ) (pairs : List (WorkUnit × W)) (b : WorkUnit × W)
+      → items ≡ marked live place pairs
+      → place < length items → b ≡ slice_index_or items place b → live b.0 ≡ false
+      → slice_set items place (no_unit, b.1) ≡ marked live (place + 1) pairs
   marks-dead items place pairs b are inside at s =
       let next : suc place ≡ place + 1 = omega arith in
       ap (λ (xs : List (WorkUnit × W)). slice_set xs place (no_unit, b.1)) are
@@ -123,7 +127,8 @@ module _ {W : Type 0} (live : WorkUnit → Bool) where
   remains pair = not (is_no_unit pair.0)
 
   -- once all are marked, what is left are the live ones
-  pub left-live : (count : ℕ) (pairs : List (WorkUnit × W)) → length pairs ≤ count → AllByRecursion (λ unit. is_no_unit unit ≡ false) (keys_of pairs)
+  pub left-live : (count : ℕ) (pairs : List (WorkUnit × W)) → length pairs ≤ count
+      → AllByRecursion (λ unit. is_no_unit unit ≡ false) (keys_of pairs)
       → filter remains (marked live count pairs) ≡ live_among live pairs
   left-live zero [] small units = refl
   left-live (suc count) [] small units = refl
@@ -138,12 +143,14 @@ module _ {W : Type 0} (live : WorkUnit → Bool) where
         | inr s ↦ ap (λ p. filter remains (p ∷ marked live count pairs)) (if_false _ _ _ s) ∙ rest ∙ sym (if_false _ _ _ s)
       ]
 
-pub keys-rows : {A : Type 0} (rows : List (WorkUnit × (Work A × Versions))) → AllByRecursion (λ unit. is_no_unit unit ≡ false) (keys_of rows)
+pub keys-rows : {A : Type 0} (rows : List (WorkUnit × (Work A × Versions)))
+    → AllByRecursion (λ unit. is_no_unit unit ≡ false) (keys_of rows)
     → AllByRecursion (λ unit. is_no_unit unit ≡ false) (keys_of (map value_part rows))
 keys-rows [] all = tt
 keys-rows (row ∷ rows) all = (all.0, keys-rows rows all.1)
 
-pub units-rows : {A : Type 0} (rows : List (WorkUnit × (Work A × Versions))) → AllByRecursion (λ (d : Done A). is_no_unit d.unit ≡ false) (map done_of rows)
+pub units-rows : {A : Type 0} (rows : List (WorkUnit × (Work A × Versions)))
+    → AllByRecursion (λ (d : Done A). is_no_unit d.unit ≡ false) (map done_of rows)
     → AllByRecursion (λ unit. is_no_unit unit ≡ false) (keys_of rows)
 units-rows [] all = tt
 units-rows (row ∷ rows) all = (all.0, units-rows rows all.1)

@@ -13,16 +13,20 @@ use Rattle.round_core.specs.Counts.{AreApart}
 use Rattle.round_core.specs.Machine.{Held, held_at, place_of, version_of, risen_state, risen, raised, all_raised}
 use Rattle.round_core.specs.Stays.{Stays, AllStay}
 
-pub held_at-here : {A : Type 0} (h : Held A) (hs : List (Held A)) (node : Node) → same_node node h.node ≡ true → held_at (h ∷ hs) node ≡ Some h
+pub held_at-here : {A : Type 0} (h : Held A) (hs : List (Held A)) (node : Node) → same_node node h.node ≡ true
+    → held_at (h ∷ hs) node ≡ Some h
 held_at-here h hs node e = cond-true _ _ _ e
 
-pub held_at-there : {A : Type 0} (h : Held A) (hs : List (Held A)) (node : Node) → same_node node h.node ≡ false → held_at (h ∷ hs) node ≡ held_at hs node
+pub held_at-there : {A : Type 0} (h : Held A) (hs : List (Held A)) (node : Node) → same_node node h.node ≡ false
+    → held_at (h ∷ hs) node ≡ held_at hs node
 held_at-there h hs node e = cond-false _ _ _ e
 
-pub place_of-here : {A : Type 0} (h : Held A) (hs : List (Held A)) (node : Node) → same_node node h.node ≡ true → place_of (h ∷ hs) node ≡ Some 0
+pub place_of-here : {A : Type 0} (h : Held A) (hs : List (Held A)) (node : Node) → same_node node h.node ≡ true
+    → place_of (h ∷ hs) node ≡ Some 0
 place_of-here h hs node e = cond-true _ _ _ e
 
-pub place_of-there : {A : Type 0} (h : Held A) (hs : List (Held A)) (node : Node) → same_node node h.node ≡ false → place_of (h ∷ hs) node ≡ option_map (λ place. place + 1) (place_of hs node)
+pub place_of-there : {A : Type 0} (h : Held A) (hs : List (Held A)) (node : Node) → same_node node h.node ≡ false
+    → place_of (h ∷ hs) node ≡ option_map (λ place. place + 1) (place_of hs node)
 place_of-there h hs node e = cond-false _ _ _ e
 
 Stays-refl : {A : Type 0} (h : Held A) → Stays h h
@@ -103,7 +107,8 @@ held_at-later (k ∷ hs) (l ∷ ls) node h s e =
     ]
 
 -- a place stays the node's
-pub place_of-later : {A : Type 0} (hs ls : List (Held A)) (node : Node) (p : ℕ) → AllStay hs ls → place_of hs node ≡ Some p → place_of ls node ≡ Some p
+pub place_of-later : {A : Type 0} (hs ls : List (Held A)) (node : Node) (p : ℕ) → AllStay hs ls
+    → place_of hs node ≡ Some p → place_of ls node ≡ Some p
 place_of-later [] ls node p s e = absurd (cc)
 place_of-later (k ∷ hs) [] node p s e = absurd s
 place_of-later (k ∷ hs) (l ∷ ls) node p s e =
@@ -136,7 +141,8 @@ place_of-one (h ∷ hs) n k p e d =
     ]
 
 -- a node that is there has a place
-pub place_of-held : {A : Type 0} (hs : List (Held A)) (node : Node) (h : Held A) → held_at hs node ≡ Some h → (p : ℕ) × (place_of hs node ≡ Some p)
+pub place_of-held : {A : Type 0} (hs : List (Held A)) (node : Node) (h : Held A) → held_at hs node ≡ Some h
+    → (p : ℕ) × (place_of hs node ≡ Some p)
 place_of-held [] node h e = absurd (cc)
 place_of-held (k ∷ hs) node h e =
     elim (cases_Bool (same_node node k.node)) [
@@ -146,7 +152,8 @@ place_of-held (k ∷ hs) node h e =
     ]
 
 -- what has a place is there
-pub held_at-placed : {A : Type 0} (hs : List (Held A)) (node : Node) (p : ℕ) → place_of hs node ≡ Some p → (h : Held A) × (held_at hs node ≡ Some h)
+pub held_at-placed : {A : Type 0} (hs : List (Held A)) (node : Node) (p : ℕ) → place_of hs node ≡ Some p
+    → (h : Held A) × (held_at hs node ≡ Some h)
 held_at-placed [] node p e = absurd (cc)
 held_at-placed (k ∷ hs) node p e =
     elim (cases_Bool (same_node node k.node)) [
@@ -194,7 +201,8 @@ pub raised-there : {A : Type 0} (m : Analysis A) (h : Held A) (hs : List (Held A
 raised-there m h hs post e = cond-false _ _ _ e
 
 -- a post changes the entry of its own node alone
-pub held_at-raised_other : {A : Type 0} (m : Analysis A) (hs : List (Held A)) (post : Node × A) (node : Node) → same_node node post.0 ≡ false
+pub held_at-raised_other : {A : Type 0} (m : Analysis A) (hs : List (Held A)) (post : Node × A) (node : Node)
+    → same_node node post.0 ≡ false
     → held_at (raised m hs post) node ≡ held_at hs node
 held_at-raised_other m [] post node ne = held_at-there (record { node = post.0; state = post.1; rises = 1 }) [] node ne
 held_at-raised_other m (h ∷ hs) post node ne =
@@ -236,12 +244,14 @@ AreApart-raised m (h ∷ hs) post a =
           (held_at-raised_other m hs post h.node (same_node-turned post.0 h.node f) ∙ a.0, AreApart-raised m hs post a.1)
     ]
 
-pub AreApart-all_raised : {A : Type 0} (m : Analysis A) (hs : List (Held A)) (posts : List (Node × A)) → AreApart hs → AreApart (all_raised m hs posts)
+pub AreApart-all_raised : {A : Type 0} (m : Analysis A) (hs : List (Held A)) (posts : List (Node × A)) → AreApart hs
+    → AreApart (all_raised m hs posts)
 AreApart-all_raised m hs [] a = a
 AreApart-all_raised m hs (post ∷ posts) a = AreApart-all_raised m (raised m hs post) posts (AreApart-raised m hs post a)
 
 -- what holds of each entry holds of the one that is found
-pub held_at-all : {A : Type 0} (P : Held A → Type 0) (hs : List (Held A)) (node : Node) (h : Held A) → AllByRecursion P hs → held_at hs node ≡ Some h → P h
+pub held_at-all : {A : Type 0} (P : Held A → Type 0) (hs : List (Held A)) (node : Node) (h : Held A)
+    → AllByRecursion P hs → held_at hs node ≡ Some h → P h
 held_at-all P [] node h a e = absurd (cc)
 held_at-all P (k ∷ hs) node h a e =
     elim (cases_Bool (same_node node k.node)) [

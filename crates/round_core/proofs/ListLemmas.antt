@@ -50,7 +50,8 @@ taken_from x (y ∷ ys) h = elim h [
 
 module _ {X : Type 0} where
   -- lists without repeats
-  pub different_append : (xs ys : List X) → AreDifferent xs → AreDifferent ys → ((x : X) → IsIn x xs → IsIn x ys → ⊥) → AreDifferent (xs ++ ys)
+  pub different_append : (xs ys : List X) → AreDifferent xs → AreDifferent ys → ((x : X) → IsIn x xs → IsIn x ys → ⊥)
+      → AreDifferent (xs ++ ys)
   different_append [] ys d e apart = e
   different_append (x ∷ xs) ys d e apart = (
     λ h. elim (IsIn-split x xs ys h) [ inl a ↦ d.0 a | inr b ↦ apart x (inl refl) b ],

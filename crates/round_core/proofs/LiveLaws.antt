@@ -38,7 +38,8 @@ with_first {A = A} live passes first done =
 abbrev passing_pairs : {A : Type 0} → (WorkUnit → Bool) → List (Done A) → List (WorkUnit × Work A)
 passing_pairs {A = A} live done = filter (λ (p : WorkUnit × Work A). live p.0) (pairs_of done)
 
-pair_in : {A : Type 0} (live : WorkUnit → Bool) (done : List (Done A)) (unit : WorkUnit) (d : Done A) → done_at done unit ≡ Some d → live unit ≡ true
+pair_in : {A : Type 0} (live : WorkUnit → Bool) (done : List (Done A)) (unit : WorkUnit) (d : Done A)
+    → done_at done unit ≡ Some d → live unit ≡ true
     → Contains (passing_pairs live done) (unit, d.work)
 pair_in live [] unit d found alive = absurd (cc)
 pair_in {A = A} live (first ∷ done) unit d found alive = elim (truth (same_unit unit first.unit)) [
@@ -58,7 +59,8 @@ pair_in {A = A} live (first ∷ done) unit d found alive = elim (truth (same_uni
 ]
 
 -- the last work of a live unit is among the live ones
-live_in : {A : Type 0} (live : WorkUnit → Bool) (done : List (Done A)) (unit : WorkUnit) (d : Done A) → done_at done unit ≡ Some d → live unit ≡ true
+live_in : {A : Type 0} (live : WorkUnit → Bool) (done : List (Done A)) (unit : WorkUnit) (d : Done A)
+    → done_at done unit ≡ Some d → live unit ≡ true
     → Contains (passing live done) d.work
 live_in live [] unit d found alive = absurd (cc)
 live_in live (first ∷ done) unit d found alive =

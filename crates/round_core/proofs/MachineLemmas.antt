@@ -20,7 +20,8 @@ module _ {A : Type 0} (m : Analysis A) where
   unfolding replay_from
   replay-none = refl
 
-  pub after-claim : (b : BookState A) (seat : ℕ) (u : WorkUnit) → after m b (Claim seat u) ≡ record b { out = with_out b seat u (inputs_of b.nodes u) }
+  pub after-claim : (b : BookState A) (seat : ℕ) (u : WorkUnit)
+      → after m b (Claim seat u) ≡ record b { out = with_out b seat u (inputs_of b.nodes u) }
   unfolding after
   after-claim b seat u = refl
 

@@ -78,12 +78,15 @@ module _ {A : Type 0} where
   ]
 
   -- what a mark is found to be is how often its node rose
-  pub version-at : (eq : Node → Node → Bool) → ((n k : Node) → eq n k ≡ same_node n k) → (rows : List (Node × (A × ℕ))) (r : Option (Bor Node × Bor A × ℕ))
-      → IfSome r (λ found. lookup (eq found.0.now) (map mark_part rows) ≡ Some found.2) → IfSome r (λ found. version_of (map held_of rows) found.0.now ≡ found.2)
+  pub version-at : (eq : Node → Node → Bool) → ((n k : Node) → eq n k ≡ same_node n k)
+      → (rows : List (Node × (A × ℕ))) (r : Option (Bor Node × Bor A × ℕ))
+      → IfSome r (λ found. lookup (eq found.0.now) (map mark_part rows) ≡ Some found.2)
+      → IfSome r (λ found. version_of (map held_of rows) found.0.now ≡ found.2)
   version-at eq t rows None h = tt
   version-at eq t rows (Some found) h = version-marks found.0.now (eq found.0.now) (t found.0.now) rows found.2 h
 
-  pub set-nodes : (eq : Node → Node → Bool) (node : Node) → ((k : Node) → eq node k ≡ same_node node k) → (state : A) (rises : ℕ) (rows : List (Node × (A × ℕ)))
+  pub set-nodes : (eq : Node → Node → Bool) (node : Node) → ((k : Node) → eq node k ≡ same_node node k)
+      → (state : A) (rises : ℕ) (rows : List (Node × (A × ℕ)))
       → map held_of (insert_entry eq rows node (state, rises)) ≡ with_held (map held_of rows) (held_of (node, (state, rises)))
   set-nodes eq node t state rises [] = refl
   set-nodes eq node t state rises (row ∷ rows) = elim (truth (same_node node row.0)) [

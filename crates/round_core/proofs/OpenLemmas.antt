@@ -26,14 +26,16 @@ module _ {A : Type 0} (node : Node) (state : A) where
     | inr s ↦ let z : None ≡ Some i = sym (if_false _ _ _ s) ∙ e in absurd (cc)
   ]
 
-  only_held : (n : Node) (h : Held A) → held_at (one_node node state).nodes n ≡ Some h → (n ≡ node) × (place_of (one_node node state).nodes n ≡ Some 0)
+  only_held : (n : Node) (h : Held A) → held_at (one_node node state).nodes n ≡ Some h
+      → (n ≡ node) × (place_of (one_node node state).nodes n ≡ Some 0)
   only_held n h e = elim (truth (same_node n node)) [
     | inl s ↦ (same_node-eq n node s, if_true _ _ _ s)
     | inr s ↦ let z : None ≡ Some h = sym (if_false _ _ _ s) ∙ e in absurd (cc)
   ]
 
   -- the parts that hold one node and expect it
-  pub open-shown : (p : Parts A) (old : Agenda) → p.nodes.rows ≡ (one_node node state).nodes → p.works.rows ≡ [] → p.turns.out ≡ [] → p.turns.returned ≡ []
+  pub open-shown : (p : Parts A) (old : Agenda) → p.nodes.rows ≡ (one_node node state).nodes → p.works.rows ≡ []
+      → p.turns.out ≡ [] → p.turns.returned ≡ []
       → ExpectsNode p.works.rows old p.agenda node 0 → Shows (one_node node state) p
   open-shown p old hs ds os rs e = record {
     nodes = hs;
@@ -52,7 +54,8 @@ module _ {A : Type 0} (node : Node) (state : A) where
     exits = λ pc f i at. exit pc f i at;
   }
     where
-      expect : (u : WorkUnit) → IsUnit (one_node node state) u → IsExpected (one_node node state).nodes p.agenda.candidates.keys p.turns.returned u
+      expect : (u : WorkUnit) → IsUnit (one_node node state) u
+          → IsExpected (one_node node state).nodes p.agenda.candidates.keys p.turns.returned u
       expect (unit.One (At pc calls frame)) k =
           let s = only_held (At pc calls frame) k.0 k.1 in
           let x : ExpectsNode p.works.rows old p.agenda (At pc calls frame) 0 = subst (λ n. ExpectsNode p.works.rows old p.agenda n 0) (sym s.0) e in

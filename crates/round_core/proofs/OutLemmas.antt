@@ -30,14 +30,16 @@ same_unit-sym u v h = elim (truth (same_unit v u)) [
 ]
 
 -- the units of a list with one more entry
-pub place_out-last-there : (es : List (WorkUnit × Place)) (e : WorkUnit × Place) (u : WorkUnit) (p : Place) → place_out es u ≡ Some p → place_out (es ++ e ∷ []) u ≡ Some p
+pub place_out-last-there : (es : List (WorkUnit × Place)) (e : WorkUnit × Place) (u : WorkUnit) (p : Place)
+    → place_out es u ≡ Some p → place_out (es ++ e ∷ []) u ≡ Some p
 place_out-last-there [] e u p h = absurd (cc)
 place_out-last-there (f ∷ es) e u p h = elim (truth (same_unit u f.0)) [
   | inl s ↦ if_true _ _ _ s ∙ sym (if_true _ _ _ s) ∙ h
   | inr s ↦ if_false _ _ _ s ∙ place_out-last-there es e u p (sym (if_false _ _ _ s) ∙ h)
 ]
 
-pub place_out-last : (es : List (WorkUnit × Place)) (e : WorkUnit × Place) (u : WorkUnit) → place_out es u ≡ None → place_out (es ++ e ∷ []) u ≡ place_out (e ∷ []) u
+pub place_out-last : (es : List (WorkUnit × Place)) (e : WorkUnit × Place) (u : WorkUnit) → place_out es u ≡ None
+    → place_out (es ++ e ∷ []) u ≡ place_out (e ∷ []) u
 place_out-last [] e u h = refl
 place_out-last (f ∷ es) e u h = elim (truth (same_unit u f.0)) [
   | inl s ↦ let bad : Some f.1 ≡ None = sym (if_true _ _ _ s) ∙ h in absurd (cc)
@@ -52,14 +54,16 @@ was_out old new u v q t e = elim (truth (same_unit u v)) [
   | inr i ↦ (i, sym (if_false _ _ _ i) ∙ sym (t.places v) ∙ e)
 ]
 
-pub posted_back : (old new : Standing) (u : WorkUnit) → TakesHome old.out u new.out → new.returned ≡ old.returned → AreGivenBack old → AreGivenBack new
+pub posted_back : (old new : Standing) (u : WorkUnit) → TakesHome old.out u new.out → new.returned ≡ old.returned
+    → AreGivenBack old → AreGivenBack new
 posted_back old new u t e a = record {
   once = subst (λ l. AreDifferent l) (sym e) a.once;
   home = λ v q h i. a.home v q (was_out old.out new.out u v q t h).1 (subst (λ l. IsIn q l) e i);
 }
 
 module _ {A : Type 0} where
-  pub out_at-last-there : (os : List (Out A)) (o : Out A) (u : WorkUnit) (x : Out A) → out_at os u ≡ Some x → out_at (os ++ o ∷ []) u ≡ Some x
+  pub out_at-last-there : (os : List (Out A)) (o : Out A) (u : WorkUnit) (x : Out A) → out_at os u ≡ Some x
+      → out_at (os ++ o ∷ []) u ≡ Some x
   out_at-last-there [] o u x h = absurd (cc)
   out_at-last-there (f ∷ os) o u x h = elim (truth (same_unit u f.unit)) [
     | inl s ↦ if_true _ _ _ s ∙ sym (if_true _ _ _ s) ∙ h
@@ -88,7 +92,8 @@ module _ {A : Type 0} where
   unit-of b os (Back (At pc calls frame) (At from calls' frame')) k = k
   unit-of b os (Back (Exit pc frame) x) k = k
 
-  none_before : (os : List (Out A)) (o : Out A) (u : WorkUnit) (r : Option (Out A)) → out_at os u ≡ r → out_at (os ++ o ∷ []) u ≡ None → r ≡ None
+  none_before : (os : List (Out A)) (o : Out A) (u : WorkUnit) (r : Option (Out A)) → out_at os u ≡ r
+      → out_at (os ++ o ∷ []) u ≡ None → r ≡ None
   none_before os o u None e h = refl
   none_before os o u (Some x) e h = let t = out_at-last-there os o u x e in let bad : Some x ≡ None = sym t ∙ h in absurd (cc)
 
@@ -96,7 +101,8 @@ module _ {A : Type 0} where
   with_turns p turns = record p { turns = turns }
 
   -- the place that goes out with a unit is that of the unit
-  placed_out : (b : BookState A) (p : Parts A) → Shows b p → (v : WorkUnit) (q : Place) → place_out p.turns.out v ≡ Some q → placed b.nodes v ≡ Some q
+  placed_out : (b : BookState A) (p : Parts A) → Shows b p → (v : WorkUnit) (q : Place)
+      → place_out p.turns.out v ≡ Some q → placed b.nodes v ≡ Some q
   placed_out b p s v q e = at (out_at b.out v) refl
     where
       at : (o : Option (Out A)) → out_at b.out v ≡ o → placed b.nodes v ≡ Some q
@@ -157,7 +163,9 @@ module _ {A : Type 0} where
         | inr t ↦ if_false _ _ _ t
       ]
 
-      gone : (v : WorkUnit) (r : Option (Out A)) → out_at b.out v ≡ r → (x : Out A) → out_at (b.out ++ o ∷ []) v ≡ Some x → (q : Place) × (place_out turns.out v ≡ Some q) × (placed b.nodes v ≡ Some q)
+      gone : (v : WorkUnit) (r : Option (Out A)) → out_at b.out v ≡ r → (x : Out A)
+          → out_at (b.out ++ o ∷ []) v ≡ Some x
+          → (q : Place) × (place_out turns.out v ≡ Some q) × (placed b.nodes v ≡ Some q)
       gone v (Some y) e x h =
           let g = s.out v y e in
           (g.0, ap (λ es. place_out es v) outs ∙ place_out-last-there p.turns.out (u, place) v g.0 g.1, g.2)
@@ -171,7 +179,8 @@ module _ {A : Type 0} where
       ]
 
   -- the list without a unit that is out
-  pub out_at-without : (os : List (Out A)) (u v : WorkUnit) → AreApart os → out_at (without os u) v ≡ (if same_unit u v then None else out_at os v)
+  pub out_at-without : (os : List (Out A)) (u v : WorkUnit) → AreApart os
+      → out_at (without os u) v ≡ (if same_unit u v then None else out_at os v)
   out_at-without [] u v a = elim (truth (same_unit u v)) [ inl t ↦ sym (if_true _ _ _ t) | inr t ↦ sym (if_false _ _ _ t) ]
   out_at-without (f ∷ os) u v a = elim (truth (same_unit u f.unit)) [
     | inl s ↦
@@ -196,7 +205,8 @@ module _ {A : Type 0} where
         ]
   ]
     where
-      later : (w : WorkUnit) → same_unit w f.unit ≡ false → (if same_unit u w then None else out_at os w) ≡ (if same_unit u w then None else out_at (f ∷ os) w)
+      later : (w : WorkUnit) → same_unit w f.unit ≡ false
+          → (if same_unit u w then None else out_at os w) ≡ (if same_unit u w then None else out_at (f ∷ os) w)
       later w t = ap (λ r. if same_unit u w then None else r) (sym (if_false _ _ _ t))
 
   apart-without : (os : List (Out A)) (u : WorkUnit) → AreApart os → AreApart (without os u)
@@ -219,11 +229,13 @@ module _ {A : Type 0} where
   -- what is known of the units that are out once one came home
   pub record IsHome (b : BookState A) (turns : Standing) (u : WorkUnit) (p : Parts A) : Type 0 where
     pub home : (v : WorkUnit) → out_at (without b.out u) v ≡ None → place_out turns.out v ≡ None
-    pub out : (v : WorkUnit) (o : Out A) → out_at (without b.out u) v ≡ Some o → (q : Place) × (place_out turns.out v ≡ Some q) × (placed b.nodes v ≡ Some q)
+    pub out : (v : WorkUnit) (o : Out A) → out_at (without b.out u) v ≡ Some o
+        → (q : Place) × (place_out turns.out v ≡ Some q) × (placed b.nodes v ≡ Some q)
     pub count : length turns.out ≡ length (without b.out u)
     pub apart : AreApart (without b.out u)
 
-  pub comes_home : (b : BookState A) (p : Parts A) (turns : Standing) (u : WorkUnit) (o : Out A) → Shows b p → out_at b.out u ≡ Some o → TakesHome p.turns.out u turns.out → IsHome b turns u p
+  pub comes_home : (b : BookState A) (p : Parts A) (turns : Standing) (u : WorkUnit) (o : Out A) → Shows b p
+      → out_at b.out u ≡ Some o → TakesHome p.turns.out u turns.out → IsHome b turns u p
   comes_home b p turns u o s is t = record {
     home = λ v h. elim (truth (same_unit u v)) [
       | inl i ↦ t.places v ∙ if_true _ _ _ i

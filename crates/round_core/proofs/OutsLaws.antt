@@ -15,7 +15,8 @@ use Rattle.round_core.proofs.EntryLaws.{all-any, out_at-all, out_at-push_found, 
 use Rattle.round_core.proofs.ReplayLaws.{taken, after-claim, after-post, after-give_back, inputs_of-unit}
 
 -- of two seats that differ each has its own unit
-other_unit : {A : Type 0} (os : List (Out A)) (unit gone : WorkUnit) (o other : Out A) → out_at os unit ≡ Some o → out_at os gone ≡ Some other
+other_unit : {A : Type 0} (os : List (Out A)) (unit gone : WorkUnit) (o other : Out A) → out_at os unit ≡ Some o
+    → out_at os gone ≡ Some other
     → other.seat ≢ o.seat → same_unit unit gone ≡ false
 other_unit os unit gone o other e d differ = false_from_ne_true (same_unit unit gone) (λ t.
     let same : unit ≡ gone = same_unit-eq unit gone t in
@@ -25,7 +26,8 @@ unit_of_out : {A : Type 0} (os : List (Out A)) (unit : WorkUnit) (o : Out A) →
 unit_of_out os unit o e = (out_at-all (λ x. Unit {0}) os unit o (all-any os) e).1
 
 -- a legal event of another seat leaves it out
-out-after : {A : Type 0} (m : Analysis A) (b : BookState A) (event : Event) (unit : WorkUnit) (o : Out A) → IsLegal b event → seat_of event ≢ o.seat
+out-after : {A : Type 0} (m : Analysis A) (b : BookState A) (event : Event) (unit : WorkUnit) (o : Out A)
+    → IsLegal b event → seat_of event ≢ o.seat
     → out_at b.out unit ≡ Some o → out_at (after m b event).out unit ≡ Some o
 out-after m b (Claim seat u) unit o legal differ e =
     let i = inputs_of-unit b u legal.claimable.known in
@@ -70,7 +72,8 @@ pub record IsTurned {A : Type 0} (m : Analysis A) (b : BookState A) (seat : ℕ)
   pub legal : IsLegal (after m b (Claim seat unit)) (Post seat unit)
   pub none_out : (after m (after m b (Claim seat unit)) (Post seat unit)).out ≡ []
 
-pub turned : {A : Type 0} (m : Analysis A) (b : BookState A) (seat : ℕ) (unit : WorkUnit) → IsFirst b unit → b.out ≡ [] → IsTurned m b seat unit
+pub turned : {A : Type 0} (m : Analysis A) (b : BookState A) (seat : ℕ) (unit : WorkUnit) → IsFirst b unit → b.out ≡ []
+    → IsTurned m b seat unit
 turned m b seat unit first none =
     let i = inputs_of-unit b unit first.claimable.known in
     let t = taken b seat unit i.0 in

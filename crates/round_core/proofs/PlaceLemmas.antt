@@ -60,7 +60,8 @@ cmp-equal (Back a x) (One b) h = absurd (cc)
 cmp-equal (Back a x) (Back b y) h =
     let e = both_equal (nat_cmp a b) (nat_cmp x y) h in ap₂ (λ n m. Back n m) (nat_equal a b e.0) (nat_equal x y e.1)
 
-added_at : (o : Ordering) (k x : Place) (xs more : List Place) → (o ≡ Equal → k ≡ x) → IsIn k more → IsIn k (match_ordering o (k ∷ x ∷ xs) (x ∷ xs) (x ∷ more))
+added_at : (o : Ordering) (k x : Place) (xs more : List Place) → (o ≡ Equal → k ≡ x) → IsIn k more
+    → IsIn k (match_ordering o (k ∷ x ∷ xs) (x ∷ xs) (x ∷ more))
 added_at Less k x xs more e h = inl refl
 added_at Equal k x xs more e h = inl (e refl)
 added_at Greater k x xs more e h = inr h
@@ -69,7 +70,8 @@ pub insert_key-added : (ks : List Place) (k : Place) → IsIn k (insert_key plac
 insert_key-added [] k = inl refl
 insert_key-added (x ∷ xs) k = added_at (place_cmp k x) k x xs _ (cmp-equal k x) (insert_key-added xs k)
 
-kept_at : (o : Ordering) (k x p : Place) (xs more : List Place) → (IsIn p xs → IsIn p more) → IsIn p (x ∷ xs) → IsIn p (match_ordering o (k ∷ x ∷ xs) (x ∷ xs) (x ∷ more))
+kept_at : (o : Ordering) (k x p : Place) (xs more : List Place) → (IsIn p xs → IsIn p more) → IsIn p (x ∷ xs)
+    → IsIn p (match_ordering o (k ∷ x ∷ xs) (x ∷ xs) (x ∷ more))
 kept_at Less k x p xs more e h = inr h
 kept_at Equal k x p xs more e h = h
 kept_at Greater k x p xs more e h = elim h [ inl s ↦ inl s | inr r ↦ inr (e r) ]
@@ -79,11 +81,13 @@ insert_key-kept [] k p h = absurd h
 insert_key-kept (x ∷ xs) k p h = kept_at (place_cmp k x) k x p xs _ (insert_key-kept xs k p) h
 
 -- what is known of a first candidate
-pub of_copied : (P : Place → Type 0) (r : Option (Bor Place)) (p : Place) → IfSome r (λ k. P k.now) → Some p ≡ option_map (λ k. k.now) r → P p
+pub of_copied : (P : Place → Type 0) (r : Option (Bor Place)) (p : Place) → IfSome r (λ k. P k.now)
+    → Some p ≡ option_map (λ k. k.now) r → P p
 of_copied P None p h e = absurd (cc)
 of_copied P (Some k) p h e = let same : k.now ≡ p = cc in subst P same h
 
-pub popped : (old new : List Place) (r : Option Place) (p : Place) → slice_get old 0 ≡ Some p → IfSome r (λ k. old ≡ k ∷ new) → IsSome r ↔ (0 < length old) → old ≡ p ∷ new
+pub popped : (old new : List Place) (r : Option Place) (p : Place) → slice_get old 0 ≡ Some p
+    → IfSome r (λ k. old ≡ k ∷ new) → IsSome r ↔ (0 < length old) → old ≡ p ∷ new
 popped [] new r p g h v = absurd (cc)
 popped (x ∷ old) new None p g h v = let some : false ≡ true = v.1 (omega arith) in absurd (cc)
 popped (x ∷ old) new (Some k) p g h v = let e : x ≡ p = cc in let d : old ≡ new = cc in ap₂ (λ a b. a ∷ b) e d
@@ -101,7 +105,8 @@ equal_from_test Greater h = absurd (cc)
 is_place : (k x : Place) → is_at (place_cmp k) x ≡ true → k ≡ x
 is_place k x h = cmp-equal k x (equal_from_test (place_cmp k x) h)
 
-removed_at : (t : Bool) (x p : Place) (xs more : List Place) → (t ≡ true → p ≡ x → ⊥) → (IsIn p xs → IsIn p more) → IsIn p (x ∷ xs) → IsIn p (cond t xs (x ∷ more))
+removed_at : (t : Bool) (x p : Place) (xs more : List Place) → (t ≡ true → p ≡ x → ⊥) → (IsIn p xs → IsIn p more)
+    → IsIn p (x ∷ xs) → IsIn p (cond t xs (x ∷ more))
 removed_at true x p xs more other e h = elim h [ inl s ↦ absurd (other refl s) | inr r ↦ r ]
 removed_at false x p xs more other e h = elim h [ inl s ↦ inl s | inr r ↦ inr (e r) ]
 

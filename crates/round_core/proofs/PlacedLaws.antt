@@ -130,7 +130,8 @@ module _ {A : Type 0} (m : Analysis A) where
   placed : (journal : List Event) → IsLegalJournal m journal → IsPlaced (replay m journal)
   placed journal legal = replay_from-keeps m IsPlaced behind (opening m) journal legal (record { out = tt; done = tt; once = tt })
 
-  pub done_units : (journal : List Event) → IsLegalJournal m journal → AllByRecursion (λ (d : Done A). is_no_unit d.unit ≡ false) (replay m journal).done
+  pub done_units : (journal : List Event) → IsLegalJournal m journal
+      → AllByRecursion (λ (d : Done A). is_no_unit d.unit ≡ false) (replay m journal).done
   done_units journal legal = let b = replay m journal in
       all-map (λ (d : Done A). IsThere b.nodes d.unit) (λ (d : Done A). is_no_unit d.unit ≡ false) (λ d is. is_some_unit d.unit is.shape) b.done (placed journal legal).done
 
@@ -152,10 +153,12 @@ record IsOfDone {A : Type 0} (live : WorkUnit → Bool) (done : List (Done A)) (
   alive : live was.unit ≡ true
   is_pair : pair ≡ pair_of was
 
-more_done : {A : Type 0} (live : WorkUnit → Bool) (d : Done A) (ds : List (Done A)) (pair : WorkUnit × Work A) → IsOfDone live ds pair → IsOfDone live (d ∷ ds) pair
+more_done : {A : Type 0} (live : WorkUnit → Bool) (d : Done A) (ds : List (Done A)) (pair : WorkUnit × Work A)
+    → IsOfDone live ds pair → IsOfDone live (d ∷ ds) pair
 more_done live d ds pair is = record { was = is.was; is_in = inr is.is_in; alive = is.alive; is_pair = is.is_pair }
 
-of_done : {A : Type 0} (live : WorkUnit → Bool) (ds : List (Done A)) (pair : WorkUnit × Work A) → Contains (passing live ds) pair → IsOfDone live ds pair
+of_done : {A : Type 0} (live : WorkUnit → Bool) (ds : List (Done A)) (pair : WorkUnit × Work A)
+    → Contains (passing live ds) pair → IsOfDone live ds pair
 of_done live [] pair there = absurd (in_none pair there)
 of_done {A = A} live (d ∷ ds) pair there = elim (truth (live d.unit)) [
   | inl s ↦ elim (in_cons (pair_of d) (passing live ds) pair (subst (λ (ps : List (WorkUnit × Work A)). Contains ps pair) (if_true _ _ _ s) there)) [

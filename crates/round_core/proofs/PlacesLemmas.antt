@@ -33,12 +33,14 @@ module _ {V : Type 0} (tells : TellsEqual frame_eq) (items : V → List ℕ) whe
   abbrev pub Writes : List (Frame × V) → List (Frame × V) → Frame → V → Type 0
   Writes old new f w = (q : Frame) → lookup (frame_eq q) new ≡ cond (frame_eq f q) (Some w) (lookup (frame_eq q) old)
 
-  pub writes-added : (old new : List (Frame × V)) (f : Frame) (w : V) → Writes old new f w → (place : ℕ) → IsIn place (items w) → IsIn place (places_in (seen new) f)
+  pub writes-added : (old new : List (Frame × V)) (f : Frame) (w : V) → Writes old new f w → (place : ℕ)
+      → IsIn place (items w) → IsIn place (places_in (seen new) f)
   writes-added old new f w e place h =
       let own : lookup (frame_eq f) new ≡ Some w = e f ∙ if_true _ _ _ (frame_eq-same tells f f ∙ same_frame-refl f) in
       subst (λ ps. IsIn place ps) (sym (places-held new f ∙ ap (λ o. unwrap_or (option_map items o) []) own)) h
 
-  pub writes-kept : (old new : List (Frame × V)) (f : Frame) (w : V) → Writes old new f w → ((p : ℕ) → IsIn p (held old f) → IsIn p (items w)) → KeepsPlaces (seen old) (seen new)
+  pub writes-kept : (old new : List (Frame × V)) (f : Frame) (w : V) → Writes old new f w
+      → ((p : ℕ) → IsIn p (held old f) → IsIn p (items w)) → KeepsPlaces (seen old) (seen new)
   writes-kept old new f w e more q p h =
       let was : IsIn p (held old q) = subst (λ ps. IsIn p ps) (places-held old q) h in
       elim (truth (frame_eq f q)) [

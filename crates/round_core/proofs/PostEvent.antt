@@ -18,7 +18,8 @@ use Rattle.round_core.proofs.PostLemmas.{behind-shown}
 
 module _ {A : Type 0} where
   -- an agenda that grows stands for the same book
-  pub grown-shown : (b : BookState A) (p p' : Parts A) → p'.nodes.rows ≡ p.nodes.rows → p'.works.rows ≡ p.works.rows → p'.turns ≡ p.turns → Grows p.agenda p'.agenda → Shows b p → Shows b p'
+  pub grown-shown : (b : BookState A) (p p' : Parts A) → p'.nodes.rows ≡ p.nodes.rows → p'.works.rows ≡ p.works.rows
+      → p'.turns ≡ p.turns → Grows p.agenda p'.agenda → Shows b p → Shows b p'
   grown-shown b p p' hs ds ts g s = record {
     nodes = hs ∙ s.nodes;
     done = ds ∙ s.done;
@@ -68,11 +69,13 @@ module _ {A : Type 0} (m : Analysis A) where
 
   -- the book behind a post
   pub posted-shown : (journal : List Event) (p q p' : Parts A) (seat : ℕ) (o : Out A) (work : Work A) (raised : List (Held A))
-      → Shows (replay m journal) p → p.turns.journal ≡ journal → out_at (replay m journal).out o.unit ≡ Some o → work ≡ m.work o.unit o.at o.exit
+      → Shows (replay m journal) p → p.turns.journal ≡ journal → out_at (replay m journal).out o.unit ≡ Some o
+      → work ≡ m.work o.unit o.at o.exit
       → IsPrepared p q o.unit o.versions work.waits raised → with_all p.nodes.rows raised ≡ all_raised m p.nodes.rows work.posts
       → p'.nodes.rows ≡ with_all q.nodes.rows raised
       → p'.works.rows ≡ with_done q.works.rows (record { unit = o.unit; work = work; versions = o.versions })
-      → p'.turns.journal ≡ q.turns.journal ++ Post seat o.unit ∷ [] → TakesHome q.turns.out o.unit p'.turns.out → p'.turns.returned ≡ q.turns.returned → p'.agenda ≡ q.agenda
+      → p'.turns.journal ≡ q.turns.journal ++ Post seat o.unit ∷ [] → TakesHome q.turns.out o.unit p'.turns.out
+      → p'.turns.returned ≡ q.turns.returned → p'.agenda ≡ q.agenda
       → Shows (replay m p'.turns.journal) p'
   posted-shown journal p q p' seat o work raised s was is own ready rise nodes works event home returned agenda =
       let b = replay m journal in

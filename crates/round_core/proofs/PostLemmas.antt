@@ -74,10 +74,12 @@ module _ {A : Type 0} where
       let j = map_some (λ (j : ℕ). place.Back i.0 j) (place_of ns x) p i.2 in
       back_placed (with_all ns es) n x i.0 j.0 (place-with_all es ns n i.0 i.1) (place-with_all es ns x j.0 j.1) ∙ ap (λ q. Some q) j.2
     where
-      back_placed : (hs : List (Held A)) (n x : Node) (i j : ℕ) → place_of hs n ≡ Some i → place_of hs x ≡ Some j → placed hs (unit.Back n x) ≡ Some (place.Back i j)
+      back_placed : (hs : List (Held A)) (n x : Node) (i j : ℕ) → place_of hs n ≡ Some i → place_of hs x ≡ Some j
+          → placed hs (unit.Back n x) ≡ Some (place.Back i j)
       back_placed hs n x i j a c = ap (λ o. option_and_then (λ t. option_map (λ s. place.Back t s) (place_of hs x)) o) a ∙ ap (λ o. option_map (λ s. place.Back i s) o) c
 
-  back-placed : (hs : List (Held A)) (n x : Node) (i j : ℕ) → place_of hs n ≡ Some i → place_of hs x ≡ Some j → placed hs (unit.Back n x) ≡ Some (place.Back i j)
+  back-placed : (hs : List (Held A)) (n x : Node) (i j : ℕ) → place_of hs n ≡ Some i → place_of hs x ≡ Some j
+      → placed hs (unit.Back n x) ≡ Some (place.Back i j)
   back-placed hs n x i j a c = ap (λ o. option_and_then (λ t. option_map (λ s. place.Back t s) (place_of hs x)) o) a ∙ ap (λ o. option_map (λ s. place.Back i s) o) c
 
   one-placed : (hs : List (Held A)) (n : Node) (i : ℕ) → place_of hs n ≡ Some i → placed hs (unit.One n) ≡ Some (place.One i)
@@ -98,7 +100,8 @@ module _ {A : Type 0} (b : BookState A) (p p' : Parts A) (o : Out A) (work : Rat
   behind = record { nodes = with_all b.nodes raised; done = with_done b.done last; out = without b.out o.unit }
 
   -- a raised node has its place, and is expected
-  risen-node : (n : Node) (h : Held A) → held_at raised n ≡ Some h → (q : ℕ) × (place_of behind.nodes n ≡ Some q) × ExpectsNode b.done p.agenda mid n q
+  risen-node : (n : Node) (h : Held A) → held_at raised n ≡ Some h
+      → (q : ℕ) × (place_of behind.nodes n ≡ Some q) × ExpectsNode b.done p.agenda mid n q
   risen-node n h e =
       let i = held-in raised n h e in
       let x = er h i.0 in
@@ -120,7 +123,8 @@ module _ {A : Type 0} (b : BookState A) (p p' : Parts A) (o : Out A) (work : Rat
           subst (λ k. IsIn k (places_in mid.exits f)) (same_place x.0 i (place_of behind.nodes (Exit pc f)) x.1 at) x.2.0
       cases None e = g1.exits f i (s.exits pc f i (still-place (Exit pc f) i e at))
 
-  waits-other : (n : Node) (f : Frame) → same_unit (unit.One n) o.unit ≡ false → waits_for behind.done n f ≡ true → waits_for b.done n f ≡ true
+  waits-other : (n : Node) (f : Frame) → same_unit (unit.One n) o.unit ≡ false → waits_for behind.done n f ≡ true
+      → waits_for b.done n f ≡ true
   waits-other n f e w = subst (λ r. unwrap_or (option_map (λ (t : Done A). list_any (same_frame f) t.work.waits) r) false ≡ true) (done_at-other b.done last (unit.One n) e) w
 
   waits-own : (n : Node) (f : Frame) → unit.One n ≡ o.unit → waits_for behind.done n f ≡ true → IsIn f work.waits
@@ -141,7 +145,8 @@ module _ {A : Type 0} (b : BookState A) (p p' : Parts A) (o : Out A) (work : Rat
   versions-same n e = ap (λ r. unwrap_or (option_map (λ (h : Held A). h.rises) r) 0) (held_at-with_all-none b.nodes raised n e)
 
   -- a unit of which nothing changed could be claimed before
-  was-claimable : (v : WorkUnit) → IsUnit b v → same_unit v o.unit ≡ false → versions_of behind.nodes v ≡ versions_of b.nodes v → IsClaimable behind v → IsClaimable b v
+  was-claimable : (v : WorkUnit) → IsUnit b v → same_unit v o.unit ≡ false
+      → versions_of behind.nodes v ≡ versions_of b.nodes v → IsClaimable behind v → IsClaimable b v
   was-claimable v known e same k = record {
     known = known;
     at_home = sym (if_false _ _ _ (same_unit-sym v o.unit e)) ∙ sym (out_at-without b.out o.unit v s.apart) ∙ k.at_home;
@@ -150,7 +155,8 @@ module _ {A : Type 0} (b : BookState A) (p p' : Parts A) (o : Out A) (work : Rat
   }
 
   -- the unit that came home can be claimed anew where an input rose since it was claimed
-  has-risen : (v : WorkUnit) → v ≡ o.unit → versions_of behind.nodes v ≡ versions_of b.nodes v → IsClaimable behind v → HasRisen o.versions (versions_of b.nodes v)
+  has-risen : (v : WorkUnit) → v ≡ o.unit → versions_of behind.nodes v ≡ versions_of b.nodes v → IsClaimable behind v
+      → HasRisen o.versions (versions_of b.nodes v)
   has-risen v e same k =
       let at : done_at behind.done v ≡ Some last = ap (λ u. done_at behind.done u) e ∙ done_at-same b.done last in
       subst (λ t. HasRisen o.versions t) same
@@ -170,7 +176,8 @@ module _ {A : Type 0} (b : BookState A) (p p' : Parts A) (o : Out A) (work : Rat
         elim x.2 [ inl i ↦ inl (in-mid x.0 (g1.candidates x.0 i)) | inr i ↦ inr (subst (λ r. IsIn x.0 r) (sym ret) i) ],
       )
 
-  one-expected : (pc : ℕ) (calls : List ℕ) (frame : Frame) → IsClaimable behind (unit.One (At pc calls frame)) → Expected (unit.One (At pc calls frame))
+  one-expected : (pc : ℕ) (calls : List ℕ) (frame : Frame) → IsClaimable behind (unit.One (At pc calls frame))
+      → Expected (unit.One (At pc calls frame))
   one-expected pc calls frame k = cases (held_at raised (At pc calls frame)) refl
     where
       cases : (r : Option (Held A)) → held_at raised (At pc calls frame) ≡ r → Expected (unit.One (At pc calls frame))
@@ -196,10 +203,15 @@ module _ {A : Type 0} (b : BookState A) (p p' : Parts A) (o : Out A) (work : Rat
       exit-at : (j : ℕ) × (place_of behind.nodes (Exit from left) ≡ Some j)
       exit-at = place-held behind.nodes (Exit from left) k.known.1 k.known.3
 
-      found : (i j : ℕ) → place_of behind.nodes (At pc calls frame) ≡ Some i → place_of behind.nodes (Exit from left) ≡ Some j → IsIn (place.Back i j) p'.agenda.candidates.keys → Expected (unit.Back (At pc calls frame) (Exit from left))
+      found : (i j : ℕ) → place_of behind.nodes (At pc calls frame) ≡ Some i
+          → place_of behind.nodes (Exit from left) ≡ Some j → IsIn (place.Back i j) p'.agenda.candidates.keys
+          → Expected (unit.Back (At pc calls frame) (Exit from left))
       found i j a c h = (place.Back i j, back-placed behind.nodes (At pc calls frame) (Exit from left) i j a c, inl h)
 
-      quiet : waits_for b.done (At pc calls frame) left ≡ true → (i j : ℕ) → place_of b.nodes (At pc calls frame) ≡ Some i → place_of b.nodes (Exit from left) ≡ Some j → held_at raised (At pc calls frame) ≡ None → held_at raised (Exit from left) ≡ None → Expected (unit.Back (At pc calls frame) (Exit from left))
+      quiet : waits_for b.done (At pc calls frame) left ≡ true → (i j : ℕ)
+          → place_of b.nodes (At pc calls frame) ≡ Some i → place_of b.nodes (Exit from left) ≡ Some j
+          → held_at raised (At pc calls frame) ≡ None → held_at raised (Exit from left) ≡ None
+          → Expected (unit.Back (At pc calls frame) (Exit from left))
       quiet w i j a c e f = elim (truth (same_unit (unit.Back (At pc calls frame) (Exit from left)) o.unit)) [
         | inl t ↦
             let one = same_unit-eq (unit.Back (At pc calls frame) (Exit from left)) o.unit t in
@@ -212,13 +224,17 @@ module _ {A : Type 0} (b : BookState A) (p p' : Parts A) (o : Out A) (work : Rat
             was-expected (unit.Back (At pc calls frame) (Exit from left)) (was-claimable (unit.Back (At pc calls frame) (Exit from left)) (k.known.0, k.known.1, hn, hx, w) t (ap₂ (λ y z. two_versions y z) (versions-same (At pc calls frame) e) (versions-same (Exit from left) f)) k)
       ]
 
-      old-exit : waits_for b.done (At pc calls frame) left ≡ true → (i j : ℕ) → place_of b.nodes (At pc calls frame) ≡ Some i → place_of b.nodes (Exit from left) ≡ Some j → held_at raised (Exit from left) ≡ None → (r : Option (Held A)) → held_at raised (At pc calls frame) ≡ r → Expected (unit.Back (At pc calls frame) (Exit from left))
+      old-exit : waits_for b.done (At pc calls frame) left ≡ true → (i j : ℕ)
+          → place_of b.nodes (At pc calls frame) ≡ Some i → place_of b.nodes (Exit from left) ≡ Some j
+          → held_at raised (Exit from left) ≡ None → (r : Option (Held A)) → held_at raised (At pc calls frame) ≡ r
+          → Expected (unit.Back (At pc calls frame) (Exit from left))
       old-exit w i j a c f (Some h) e =
           let q = risen-node (At pc calls frame) h e in
           found q.0 j q.1 (place-with_all raised b.nodes (Exit from left) j c) (in-mid _ (q.2.1 left w j (s.exits from left j c)))
       old-exit w i j a c f None e = quiet w i j a c e f
 
-      other : waits_for b.done (At pc calls frame) left ≡ true → (r : Option (Held A)) → held_at raised (Exit from left) ≡ r → Expected (unit.Back (At pc calls frame) (Exit from left))
+      other : waits_for b.done (At pc calls frame) left ≡ true → (r : Option (Held A))
+          → held_at raised (Exit from left) ≡ r → Expected (unit.Back (At pc calls frame) (Exit from left))
       other w (Some h) e =
           let q = risen-node (Exit from left) h e in
           let i = s.waiting (At pc calls frame) left w in
@@ -227,7 +243,8 @@ module _ {A : Type 0} (b : BookState A) (p p' : Parts A) (o : Out A) (work : Rat
           let i = s.waiting (At pc calls frame) left w in
           old-exit w i.0 exit-at.0 i.1 (still-place (Exit from left) exit-at.0 e exit-at.1) e (held_at raised (At pc calls frame)) refl
 
-      cases : (same_unit (unit.One (At pc calls frame)) o.unit ≡ true) ⊎ (same_unit (unit.One (At pc calls frame)) o.unit ≡ false) → Expected (unit.Back (At pc calls frame) (Exit from left))
+      cases : (same_unit (unit.One (At pc calls frame)) o.unit ≡ true) ⊎ (same_unit (unit.One (At pc calls frame)) o.unit ≡ false)
+          → Expected (unit.Back (At pc calls frame) (Exit from left))
       cases (inl t) =
           let u = same_unit-eq (unit.One (At pc calls frame)) o.unit t in
           let i = own-place (At pc calls frame) u in
@@ -242,7 +259,8 @@ module _ {A : Type 0} (b : BookState A) (p p' : Parts A) (o : Out A) (work : Rat
   expect (unit.Back (At pc calls frame) (At from calls' frame')) k = absurd k.known
   expect (unit.Back (Exit pc frame) x) k = absurd k.known
 
-  wait : (n : Node) (f : Frame) → waits_for behind.done n f ≡ true → (i : ℕ) × (place_of behind.nodes n ≡ Some i) × IsIn i (places_in p'.agenda.waiting f)
+  wait : (n : Node) (f : Frame) → waits_for behind.done n f ≡ true
+      → (i : ℕ) × (place_of behind.nodes n ≡ Some i) × IsIn i (places_in p'.agenda.waiting f)
   wait n f w = elim (truth (same_unit (unit.One n) o.unit)) [
     | inl t ↦
         let u = same_unit-eq (unit.One n) o.unit t in

@@ -46,7 +46,8 @@ module _ {A : Type 0} where
     | inr s ↦ ap (λ t. held_at t n) (if_false _ _ _ s) ∙ if_false _ _ _ (same_at x.node n h.node (sym e) false s) ∙ held_at-with_held-same hs x n e
   ]
 
-  pub held_at-with_held-other : (hs : List (Held A)) (x : Held A) (n : Node) → same_node n x.node ≡ false → held_at (with_held hs x) n ≡ held_at hs n
+  pub held_at-with_held-other : (hs : List (Held A)) (x : Held A) (n : Node) → same_node n x.node ≡ false
+      → held_at (with_held hs x) n ≡ held_at hs n
   held_at-with_held-other [] x n o = if_false _ _ _ o
   held_at-with_held-other (h ∷ hs) x n o = elim (truth (same_node x.node h.node)) [
     | inl s ↦ ap (λ t. held_at t n) (if_true _ _ _ s) ∙ if_false _ _ _ o ∙ sym (if_false _ _ _ (same_with x.node h.node n (same_node-eq x.node h.node s) false o))
@@ -60,7 +61,8 @@ module _ {A : Type 0} where
     | inr s ↦ held_at-with_all-none (with_held ns x) es n (sym (if_false _ _ _ s) ∙ e) ∙ held_at-with_held-other ns x n s
   ]
 
-  pub held_at-with_all-some : (ns es : List (Held A)) (n : Node) (h : Held A) → AreDistinct es → held_at es n ≡ Some h → held_at (with_all ns es) n ≡ Some h
+  pub held_at-with_all-some : (ns es : List (Held A)) (n : Node) (h : Held A) → AreDistinct es → held_at es n ≡ Some h
+      → held_at (with_all ns es) n ≡ Some h
   held_at-with_all-some ns [] n h d e = absurd (cc)
   held_at-with_all-some ns (x ∷ es) n h d e = elim (truth (same_node n x.node)) [
     | inl s ↦
@@ -114,7 +116,8 @@ module _ {A : Type 0} where
   ]
 
   -- a row whose node has its place may come before rows of other nodes
-  with_all-before : (es ms : List (Held A)) (x y : Held A) → held_at es x.node ≡ None → held_at ms x.node ≡ Some y → with_held (with_all ms es) x ≡ with_all (with_held ms x) es
+  with_all-before : (es ms : List (Held A)) (x y : Held A) → held_at es x.node ≡ None → held_at ms x.node ≡ Some y
+      → with_held (with_all ms es) x ≡ with_all (with_held ms x) es
   with_all-before [] ms x y e h = refl
   with_all-before (g ∷ es) ms x y e h = elim (truth (same_node x.node g.node)) [
     | inl s ↦ absurd (if_none (same_node x.node g.node) g (held_at es x.node) s e)
@@ -124,7 +127,8 @@ module _ {A : Type 0} where
   ]
 
   -- one more row may join the others before they take their places
-  pub with_all-with_held : (es ns : List (Held A)) (x : Held A) → AreDistinct es → with_all ns (with_held es x) ≡ with_held (with_all ns es) x
+  pub with_all-with_held : (es ns : List (Held A)) (x : Held A) → AreDistinct es
+      → with_all ns (with_held es x) ≡ with_held (with_all ns es) x
   with_all-with_held [] ns x d = refl
   with_all-with_held (e ∷ es) ns x d = elim (truth (same_node x.node e.node)) [
     | inl s ↦
@@ -206,18 +210,21 @@ module _ {A : Type 0} where
   with_all-append ns (e ∷ es) x = with_all-append (with_held ns e) es x
 
   module _ (m : Analysis A) where
-    risen-node : (h : Held A) (s : A) (b : Bool) → (if b then h else record { node = h.node; state = Rattle.round_core.specs.Machine.risen_state m h.node h.state s (h.rises + 1); rises = h.rises + 1 }).node ≡ h.node
+    risen-node : (h : Held A) (s : A) (b : Bool)
+        → (if b then h else record { node = h.node; state = Rattle.round_core.specs.Machine.risen_state m h.node h.state s (h.rises + 1); rises = h.rises + 1 }).node ≡ h.node
     risen-node h s true = refl
     risen-node h s false = refl
 
-    pub raised-new : (hs : List (Held A)) (n : Node) (s : A) → held_at hs n ≡ None → raised m hs (n, s) ≡ with_held hs (record { node = n; state = s; rises = 1 })
+    pub raised-new : (hs : List (Held A)) (n : Node) (s : A) → held_at hs n ≡ None
+        → raised m hs (n, s) ≡ with_held hs (record { node = n; state = s; rises = 1 })
     raised-new [] n s e = refl
     raised-new (h ∷ hs) n s e = elim (truth (same_node n h.node)) [
       | inl t ↦ absurd (if_none (same_node n h.node) h (held_at hs n) t e)
       | inr t ↦ if_false _ _ _ t ∙ ap (λ r. h ∷ r) (raised-new hs n s (sym (if_false _ _ _ t) ∙ e)) ∙ sym (if_false _ _ _ t)
     ]
 
-    pub raised-there : (hs : List (Held A)) (n : Node) (s : A) (h : Held A) → held_at hs n ≡ Some h → raised m hs (n, s) ≡ with_held hs (risen m h s)
+    pub raised-there : (hs : List (Held A)) (n : Node) (s : A) (h : Held A) → held_at hs n ≡ Some h
+        → raised m hs (n, s) ≡ with_held hs (risen m h s)
     raised-there [] n s h e = absurd (cc)
     raised-there (g ∷ hs) n s h e =
         let own : n ≡ (risen m h s).node = held-node (g ∷ hs) n h e ∙ sym (risen-node h s (m.within s h.state)) in
@@ -231,11 +238,13 @@ module _ {A : Type 0} where
               ∙ sym (if_false _ _ _ (same_at n (risen m h s).node g.node own false t))
         ]
 
-    pub raised-within : (hs : List (Held A)) (n : Node) (s : A) (h : Held A) → held_at hs n ≡ Some h → m.within s h.state ≡ true → raised m hs (n, s) ≡ hs
+    pub raised-within : (hs : List (Held A)) (n : Node) (s : A) (h : Held A) → held_at hs n ≡ Some h
+        → m.within s h.state ≡ true → raised m hs (n, s) ≡ hs
     raised-within hs n s h e w =
         raised-there hs n s h e ∙ ap (λ r. with_held hs r) (if_true _ _ _ w)
         ∙ with_held-there hs h (ap (λ k. held_at hs k) (sym (held-node hs n h e)) ∙ e)
 
-    pub all_raised-append : (hs : List (Held A)) (ps : List (Node × A)) (p : Node × A) → all_raised m hs (ps ++ p ∷ []) ≡ raised m (all_raised m hs ps) p
+    pub all_raised-append : (hs : List (Held A)) (ps : List (Node × A)) (p : Node × A)
+        → all_raised m hs (ps ++ p ∷ []) ≡ raised m (all_raised m hs ps) p
     all_raised-append hs [] p = refl
     all_raised-append hs (q ∷ ps) p = all_raised-append (raised m hs q) ps p

@@ -24,7 +24,8 @@ same_some a c e = cc
 
 module _ {A : Type 0} where
   -- rows that are looked through: the first one of the node has its place, and the others none
-  pub place-here : (rs : List (Risen A)) (node : Node) (i : ℕ) (r : Risen A) → slice_get rs i ≡ Some r → place_of (held_rows (take i rs)) node ≡ None
+  pub place-here : (rs : List (Risen A)) (node : Node) (i : ℕ) (r : Risen A) → slice_get rs i ≡ Some r
+      → place_of (held_rows (take i rs)) node ≡ None
       → same_node node r.node ≡ true → place_of (held_rows rs) node ≡ Some i
   place-here [] node i r at before s = absurd (cc)
   place-here (x ∷ rs) node zero r at before s =
@@ -37,7 +38,8 @@ module _ {A : Type 0} where
         ∙ ap (λ k. Some k) up
   ]
 
-  pub no-place-yet : (rs : List (Risen A)) (node : Node) (i : ℕ) (r : Risen A) → slice_get rs i ≡ Some r → place_of (held_rows (take i rs)) node ≡ None
+  pub no-place-yet : (rs : List (Risen A)) (node : Node) (i : ℕ) (r : Risen A) → slice_get rs i ≡ Some r
+      → place_of (held_rows (take i rs)) node ≡ None
       → same_node node r.node ≡ false → place_of (held_rows (take (suc i) rs)) node ≡ None
   no-place-yet [] node i r at before s = absurd (cc)
   no-place-yet (x ∷ rs) node zero r at before s =
@@ -55,7 +57,8 @@ module _ {A : Type 0} where
       get-bound rs i r.0 r.1
 
   -- a row at the place of a node
-  pub row-there : (rs : List (Risen A)) (node : Node) (i : ℕ) → place_of (held_rows rs) node ≡ Some i → (r : Risen A) → slice_get rs i ≡ Some r
+  pub row-there : (rs : List (Risen A)) (node : Node) (i : ℕ) → place_of (held_rows rs) node ≡ Some i → (r : Risen A)
+      → slice_get rs i ≡ Some r
       → (r.node ≡ node) × (held_at (held_rows rs) node ≡ Some (record { node = node; state = r.state; rises = r.rises }))
   row-there rs node i e r at =
       let h = held-place (held_rows rs) node i e in
@@ -70,7 +73,8 @@ module _ {A : Type 0} where
       with_node n r = record { node = n; state = r.state; rises = r.rises }
 
   -- a row in the place of another one of its node
-  pub rows-replaced : (rs : List (Risen A)) (i : ℕ) (x : Risen A) → place_of (held_rows rs) x.node ≡ Some i → held_rows (slice_set rs i x) ≡ with_held (held_rows rs) (held_of x)
+  pub rows-replaced : (rs : List (Risen A)) (i : ℕ) (x : Risen A) → place_of (held_rows rs) x.node ≡ Some i
+      → held_rows (slice_set rs i x) ≡ with_held (held_rows rs) (held_of x)
   rows-replaced [] i x e = absurd (cc)
   rows-replaced (r ∷ rs) i x e = elim (truth (same_node x.node r.node)) [
     | inl s ↦
@@ -85,7 +89,8 @@ module _ {A : Type 0} where
   ]
 
   -- a row of a new node
-  pub rows-pushed : (rs : List (Risen A)) (x : Risen A) → place_of (held_rows rs) x.node ≡ None → held_rows (rs ++ x ∷ []) ≡ with_held (held_rows rs) (held_of x)
+  pub rows-pushed : (rs : List (Risen A)) (x : Risen A) → place_of (held_rows rs) x.node ≡ None
+      → held_rows (rs ++ x ∷ []) ≡ with_held (held_rows rs) (held_of x)
   rows-pushed [] x e = refl
   rows-pushed (r ∷ rs) x e = elim (truth (same_node x.node r.node)) [
     | inl s ↦ let bad : some_zero ≡ None = sym (if_true _ _ _ s) ∙ e in absurd (cc)
@@ -113,7 +118,8 @@ module _ {A : Type 0} where
       cases None e = place-new hs x e ∙ ap (λ o. Some (unwrap_or o (length hs))) (sym e)
 
   -- the place that a node had or got stays
-  pub place-later : (ns es : List (Held A)) (x : Held A) (p : ℕ) → place_of (with_all (with_held ns x) es) x.node ≡ Some p → p ≡ place_for ns x.node
+  pub place-later : (ns es : List (Held A)) (x : Held A) (p : ℕ)
+      → place_of (with_all (with_held ns x) es) x.node ≡ Some p → p ≡ place_for ns x.node
   place-later ns es x p e =
       same_some p (place_for ns x.node) (sym e ∙ place-with_all es (with_held ns x) x.node (place_for ns x.node) (place-own ns x))
 
@@ -147,7 +153,8 @@ module _ {A : Type 0} where
           if_true _ _ _ (below place len (omega arith)) ∙ ap (λ k. Some k) is ∙ sym at
 
   -- the next row's place, where all take theirs one after the other
-  pub place-next : (ns all : List (Held A)) (rest rest' : List (Risen A)) (r : Risen A) → rest ≡ r ∷ rest' → with_all ns (held_rows rest) ≡ all
+  pub place-next : (ns all : List (Held A)) (rest rest' : List (Risen A)) (r : Risen A) → rest ≡ r ∷ rest'
+      → with_all ns (held_rows rest) ≡ all
       → ((q : Risen A) → IsIn q rest → place_of all q.node ≡ Some q.place) → r.place ≡ place_for ns r.node
   place-next ns all rest rest' r e with placed =
       let f : with_all (with_held ns (held_of r)) (held_rows rest') ≡ all = ap (λ t. with_all ns (held_rows t)) (sym e) ∙ with in
@@ -172,7 +179,8 @@ module _ {A : Type 0} where
           ]
 
       -- the next place stays where the node had one, and else is the one behind it
-      pub put-next : (next after : ℕ) → next ≡ length (with_all ns (held_rows rs)) → after ≡ (if x.place == next then next + 1 else next) → after ≡ length (with_all ns (held_rows rs'))
+      pub put-next : (next after : ℕ) → next ≡ length (with_all ns (held_rows rs))
+          → after ≡ (if x.place == next then next + 1 else next) → after ≡ length (with_all ns (held_rows rs'))
       put-next next after n e = cases (place_of (with_all ns (held_rows rs)) x.node) refl
         where
           F : List (Held A)
@@ -195,7 +203,8 @@ module _ {A : Type 0} where
               let more : after ≡ next + 1 = e ∙ new x.place next is in
               more ∙ ap (λ k. k + 1) n ∙ sym (ap length put-all ∙ length-new F (held_of x) at)
 
-      pub put-there : (p next : ℕ) → place_of (held_rows rs) x.node ≡ Some p → next ≡ length (with_all ns (held_rows rs)) → next ≡ length (with_all ns (held_rows rs'))
+      pub put-there : (p next : ℕ) → place_of (held_rows rs) x.node ≡ Some p
+          → next ≡ length (with_all ns (held_rows rs)) → next ≡ length (with_all ns (held_rows rs'))
       put-there p next at n =
           let h = held-place (held_rows rs) x.node p at in
           let q = place-held (with_all ns (held_rows rs)) x.node h.0 (held_at-with_all-some ns (held_rows rs) x.node h.0 d h.1) in

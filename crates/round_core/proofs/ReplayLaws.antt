@@ -37,14 +37,17 @@ pub replay-none : {A : Type 0} (m : Analysis A) → replay m [] ≡ opening m
 unfolding replay_from
 replay-none m = refl
 
-pub replay-push : {A : Type 0} (m : Analysis A) (journal : List Event) (event : Event) → replay m (journal ++ event ∷ []) ≡ after m (replay m journal) event
+pub replay-push : {A : Type 0} (m : Analysis A) (journal : List Event) (event : Event)
+    → replay m (journal ++ event ∷ []) ≡ after m (replay m journal) event
 replay-push m journal event = replay_from-push m (opening m) journal event
 
-pub replay-append : {A : Type 0} (m : Analysis A) (journal more : List Event) → replay m (journal ++ more) ≡ replay_from m (replay m journal) more
+pub replay-append : {A : Type 0} (m : Analysis A) (journal more : List Event)
+    → replay m (journal ++ more) ≡ replay_from m (replay m journal) more
 replay-append m journal more = replay_from-append m (opening m) journal more
 
 -- a journal is legal in two parts, each behind what stands before it
-pub AllLegal-append : {A : Type 0} (m : Analysis A) (b : BookState A) (es fs : List Event) → AllLegal m b es → AllLegal m (replay_from m b es) fs
+pub AllLegal-append : {A : Type 0} (m : Analysis A) (b : BookState A) (es fs : List Event) → AllLegal m b es
+    → AllLegal m (replay_from m b es) fs
     → AllLegal m b (es ++ fs)
 unfolding replay_from AllLegal
 AllLegal-append m b [] fs l k = k
@@ -55,7 +58,8 @@ unfolding AllLegal
 AllLegal-front m b [] fs l = tt
 AllLegal-front m b (e ∷ es) fs l = (l.0, AllLegal-front m (after m b e) es fs l.1)
 
-pub AllLegal-rest : {A : Type 0} (m : Analysis A) (b : BookState A) (es fs : List Event) → AllLegal m b (es ++ fs) → AllLegal m (replay_from m b es) fs
+pub AllLegal-rest : {A : Type 0} (m : Analysis A) (b : BookState A) (es fs : List Event) → AllLegal m b (es ++ fs)
+    → AllLegal m (replay_from m b es) fs
 unfolding replay_from AllLegal
 AllLegal-rest m b [] fs l = l
 AllLegal-rest m b (e ∷ es) fs l = AllLegal-rest m (after m b e) es fs l.1
@@ -75,7 +79,8 @@ unfolding AllLegal
 IsLegalJournal-last m journal event l = (AllLegal-rest m (opening m) journal (event ∷ []) l).0
 
 -- what each legal event keeps holds of the replay of a legal journal
-pub replay_from-keeps : {A : Type 0} (m : Analysis A) (P : BookState A → Type 0) → ((b : BookState A) (event : Event) → IsLegal b event → P b → P (after m b event))
+pub replay_from-keeps : {A : Type 0} (m : Analysis A) (P : BookState A → Type 0)
+    → ((b : BookState A) (event : Event) → IsLegal b event → P b → P (after m b event))
     → (b : BookState A) (es : List Event) → AllLegal m b es → P b → P (replay_from m b es)
 unfolding replay_from AllLegal
 replay_from-keeps m P step b [] l p = p
@@ -93,7 +98,8 @@ taken b seat unit inputs = record {
 }
 
 -- what each event leaves
-pub after-claim : {A : Type 0} (m : Analysis A) (b : BookState A) (seat : ℕ) (unit : WorkUnit) (inputs : A × Option A) → inputs_of b.nodes unit ≡ Some inputs
+pub after-claim : {A : Type 0} (m : Analysis A) (b : BookState A) (seat : ℕ) (unit : WorkUnit) (inputs : A × Option A)
+    → inputs_of b.nodes unit ≡ Some inputs
     → after m b (Claim seat unit) ≡ record b { out = b.out ++ taken b seat unit inputs ∷ [] }
 unfolding after
 after-claim m b seat unit inputs e = ap (λ i. record b { out = with_out b seat unit i }) e
@@ -126,7 +132,8 @@ AllStay-replay m b (e ∷ es) =
     AllStay-trans b.nodes (after m b e).nodes (replay_from m (after m b e) es).nodes (AllStay-after m b e) (AllStay-replay m (after m b e) es)
 
 -- a unit has its inputs
-pub inputs_of-unit : {A : Type 0} (b : BookState A) (unit : WorkUnit) → IsUnit b unit → (inputs : A × Option A) × (inputs_of b.nodes unit ≡ Some inputs)
+pub inputs_of-unit : {A : Type 0} (b : BookState A) (unit : WorkUnit) → IsUnit b unit
+    → (inputs : A × Option A) × (inputs_of b.nodes unit ≡ Some inputs)
 inputs_of-unit b (One (At pc calls frame)) u = (((u.0).state, None), ap (λ o. option_map (λ h. (h.state, None)) o) u.1)
 inputs_of-unit b (One (Exit pc frame)) u = absurd u
 inputs_of-unit b (Back (At pc calls frame) (Exit from left)) u =
@@ -164,7 +171,8 @@ IsWellOut-later hs ls o s w = record {
   stay = AllStay-trans o.nodes hs ls w.stay s;
 }
 
-pub IsWellDone-later : {A : Type 0} (m : Analysis A) (hs ls : List (Held A)) (d : Done A) → AllStay hs ls → IsWellDone m hs d → IsWellDone m ls d
+pub IsWellDone-later : {A : Type 0} (m : Analysis A) (hs ls : List (Held A)) (d : Done A) → AllStay hs ls
+    → IsWellDone m hs d → IsWellDone m ls d
 IsWellDone-later m hs ls d s w = record {
   known = AreUpTo-trans d.versions (versions_of hs d.unit) (versions_of ls d.unit) w.known (versions_of-later hs ls d.unit s);
   worked = λ e. let same : versions_of hs d.unit ≡ d.versions =
@@ -177,7 +185,8 @@ IsWellDone-later m hs ls d s w = record {
 pub IsSteady-opening : {A : Type 0} (m : Analysis A) → IsSteady m (opening m)
 IsSteady-opening m = record { apart = (refl, tt); once = tt; out = tt; done = tt }
 
-IsSteady-posted : {A : Type 0} (m : Analysis A) (b : BookState A) (o : Out A) → IsWellOut b.nodes o → IsSteady m b → IsSteady m (posted m b (Some o))
+IsSteady-posted : {A : Type 0} (m : Analysis A) (b : BookState A) (o : Out A) → IsWellOut b.nodes o → IsSteady m b
+    → IsSteady m (posted m b (Some o))
 IsSteady-posted m b o w s =
     let work = m.work o.unit o.at o.exit in
     let ls : List (Held _) = all_raised m b.nodes work.posts in
@@ -193,7 +202,8 @@ IsSteady-posted m b o w s =
     }
 
 -- a legal event keeps it
-pub IsSteady-after : {A : Type 0} (m : Analysis A) (b : BookState A) (event : Event) → IsLegal b event → IsSteady m b → IsSteady m (after m b event)
+pub IsSteady-after : {A : Type 0} (m : Analysis A) (b : BookState A) (event : Event) → IsLegal b event → IsSteady m b
+    → IsSteady m (after m b event)
 IsSteady-after m b (Claim seat unit) l s =
     let i = inputs_of-unit b unit l.claimable.known in
     subst (IsSteady m) (sym (after-claim m b seat unit i.0 i.1)) (record {
@@ -293,7 +303,8 @@ AreRisen-raised m (h ∷ hs) post a =
       | inr f ↦ subst AreRisen (sym (raised-there m h hs post f)) (a.0, AreRisen-raised m hs post a.1)
     ]
 
-AreRisen-all_raised : {A : Type 0} (m : Analysis A) (hs : List (Held A)) (posts : List (Node × A)) → AreRisen hs → AreRisen (all_raised m hs posts)
+AreRisen-all_raised : {A : Type 0} (m : Analysis A) (hs : List (Held A)) (posts : List (Node × A)) → AreRisen hs
+    → AreRisen (all_raised m hs posts)
 AreRisen-all_raised m hs [] a = a
 AreRisen-all_raised m hs (post ∷ posts) a = AreRisen-all_raised m (raised m hs post) posts (AreRisen-raised m hs post a)
 
@@ -318,7 +329,8 @@ least-by hs node h a e =
     let i : 1 ≤ h.rises = held_at-all (λ x. 1 ≤ x.rises) hs node h a e in omega (arith, v, i)
 
 -- a unit's node has risen
-pub versions_of-least : {A : Type 0} (b : BookState A) (unit : WorkUnit) → AreRisen b.nodes → IsUnit b unit → 1 ≤ (versions_of b.nodes unit).at
+pub versions_of-least : {A : Type 0} (b : BookState A) (unit : WorkUnit) → AreRisen b.nodes → IsUnit b unit
+    → 1 ≤ (versions_of b.nodes unit).at
 versions_of-least b (One (At pc calls frame)) a u = least-by b.nodes (At pc calls frame) u.0 a u.1
 versions_of-least b (One (Exit pc frame)) a u = absurd u
 versions_of-least b (Back (At pc calls frame) (Exit from left)) a u = least-by b.nodes (At pc calls frame) u.0 a u.2

@@ -84,7 +84,8 @@ AreUnder m hs posts = AllByRecursion (IsUnder m hs) posts
 
 -- both the held state and the posted one are within the risen one
 risen-above : {A : Type 0} (m : Analysis A) → IsOrdered m → (h : Held A) (posted : A)
-    → m.HasForm h.node h.state → m.HasForm h.node posted → (m.within h.state (risen m h posted).state ≡ true) × (m.within posted (risen m h posted).state ≡ true)
+    → m.HasForm h.node h.state → m.HasForm h.node posted
+    → (m.within h.state (risen m h posted).state ≡ true) × (m.within posted (risen m h posted).state ≡ true)
 risen-above m o h posted hf pf =
     elim (cases_Bool (m.within posted h.state)) [
       | inl t ↦ subst (λ x. (m.within h.state x.state ≡ true) × (m.within posted x.state ≡ true)) (sym (risen-within m h posted t)) (o.itself h.node h.state hf, t)
@@ -143,7 +144,8 @@ IsUnder-all_raised m keeps o hs (post ∷ posts) p a f g u =
     (IsUnder-raised m keeps o hs post p a f.0 g u)
 
 pub AreUnder-all_raised : {A : Type 0} (m : Analysis A) → KeepsForm m → IsOrdered m
-    → (hs : List (Held A)) (posts : List (Node × A)) (ps : List (Node × A)) → AreInBounds m hs → PostsAreFormed m posts → PostsAreFormed m ps
+    → (hs : List (Held A)) (posts : List (Node × A)) (ps : List (Node × A)) → AreInBounds m hs → PostsAreFormed m posts
+    → PostsAreFormed m ps
     → AreUnder m hs ps → AreUnder m (all_raised m hs posts) ps
 AreUnder-all_raised m keeps o hs posts [] a f g u = tt
 AreUnder-all_raised m keeps o hs posts (p ∷ ps) a f g u =

@@ -22,16 +22,19 @@ use Rattle.round_core.specs.Machine.{BookState, Held, Done, held_at, done_at, in
 use Rattle.round_core.specs.declared.event.Event.{Event}
 
 -- the states that a table has are those of the nodes
-pub at-held : {A : Type 0} (nodes : List (Held A)) (node : Node) (at : A) → table_of nodes node ≡ Some at → (h : Held A) × (held_at nodes node ≡ Some h) × (h.state ≡ at)
+pub at-held : {A : Type 0} (nodes : List (Held A)) (node : Node) (at : A) → table_of nodes node ≡ Some at
+    → (h : Held A) × (held_at nodes node ≡ Some h) × (h.state ≡ at)
 at-held nodes node at e = option_map-some (λ h. h.state) (held_at nodes node) at e
 
 -- what is under its node is in the table
-held-in : {A : Type 0} (m : Analysis A) (nodes : List (Held A)) (post : Node × A) → IsUnder m nodes post → IsHeldIn m (table_of nodes) post.0 post.1
+held-in : {A : Type 0} (m : Analysis A) (nodes : List (Held A)) (post : Node × A) → IsUnder m nodes post
+    → IsHeldIn m (table_of nodes) post.0 post.1
 held-in m nodes post u = ((u.0).state, ap (λ o. option_map (λ h. h.state) o) u.1, u.2)
 
 -- the last work of a location waits as its work over the table's state does
 waits-present : {A : Type 0} (m : Analysis A) (b : BookState A) → IsFinished b → IsSteady m b → (node : Node) (h : Held A)
-    → IsUnit b (One node) → held_at b.nodes node ≡ Some h → (d : Done A) × (done_at b.done (One node) ≡ Some d) × (d.work ≡ m.work (One node) h.state None)
+    → IsUnit b (One node) → held_at b.nodes node ≡ Some h
+    → (d : Done A) × (done_at b.done (One node) ≡ Some d) × (d.work ≡ m.work (One node) h.state None)
 waits-present m b f s node h u e =
     let r = finished-done m b (One node) f s u in
     let w = r.2 in
@@ -64,14 +67,16 @@ unit-of_table m b f s (Back (Exit pc frame) node) at exit o = absurd o
 
 -- the work over the table's states is the unit's last one
 work-present : {A : Type 0} (m : Analysis A) (b : BookState A) → IsFinished b → IsSteady m b → (unit : WorkUnit) (at : A) (exit : Option A)
-    → IsUnit b unit → inputs_of b.nodes unit ≡ Some (at, exit) → (d : Done A) × (done_at b.done unit ≡ Some d) × (d.work ≡ m.work unit at exit)
+    → IsUnit b unit → inputs_of b.nodes unit ≡ Some (at, exit)
+    → (d : Done A) × (done_at b.done unit ≡ Some d) × (d.work ≡ m.work unit at exit)
 work-present m b f s unit at exit u e =
     let r = finished-done m b unit f s u in
     let w = r.2 in
     let i = same_Some _ _ (sym w.1 ∙ e) in
     (r.0, r.1, w.2 ∙ ap (λ x. m.work unit x.0 x.1) i)
 
-pub closed-table : {A : Type 0} (m : Analysis A) (b : BookState A) → IsClosed b → IsSteady m b → IsServed m b → IsClosedTable m (table_of b.nodes)
+pub closed-table : {A : Type 0} (m : Analysis A) (b : BookState A) → IsClosed b → IsSteady m b → IsServed m b
+    → IsClosedTable m (table_of b.nodes)
 closed-table m b c s v = record {
   started = held-in m b.nodes (m.first_node, m.first_state) v.start;
   no_open = λ unit at exit o. let u = unit-of_table m b c.finished s unit at exit o in
@@ -89,8 +94,10 @@ formed-table m keeps top journal l = λ node state e. let h = at-held (replay m 
     subst (m.HasForm node) h.2 (held_at-form m (replay m journal).nodes node h.0 (IsInForm-replay m keeps top journal l).nodes h.1)
 
 -- A unit of the table is one of the finished book, whose last work is the work over the table's states,
-pub table-unit : {A : Type 0} (m : Analysis A) (b : BookState A) → IsFinished b → IsSteady m b → (unit : WorkUnit) (at : A) (exit : Option A)
-    → IsUnitOver m (table_of b.nodes) unit at exit → IsUnit b unit × ((d : Done A) × (done_at b.done unit ≡ Some d) × (d.work ≡ m.work unit at exit))
+pub table-unit : {A : Type 0} (m : Analysis A) (b : BookState A) → IsFinished b → IsSteady m b
+    → (unit : WorkUnit) (at : A) (exit : Option A)
+    → IsUnitOver m (table_of b.nodes) unit at exit
+    → IsUnit b unit × ((d : Done A) × (done_at b.done unit ≡ Some d) × (d.work ≡ m.work unit at exit))
 table-unit m b f s unit at exit o =
     let u = unit-of_table m b f s unit at exit o in (u.0, work-present m b f s unit at exit u.0 u.1)
 

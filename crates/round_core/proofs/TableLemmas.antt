@@ -169,7 +169,8 @@ module _ {K V M : Type 0} where
     values-set rows o e = value-set rows o (e ∙ position-place (eq key) rows)
 
     -- both lists with a row in its place
-    pub set_rows : (place : Option ℕ) (marks marks' : List (K × M)) (values values' : List (K × V)) → AreRowsOf marks values → marks' ≡ insert_entry eq marks key mark
+    pub set_rows : (place : Option ℕ) (marks marks' : List (K × M)) (values values' : List (K × V))
+        → AreRowsOf marks values → marks' ≡ insert_entry eq marks key mark
         → values' ≡ with_entry values place key value → place ≡ position (eq key) (keys_of (rows_of marks values))
         → (rows_of marks' values' ≡ insert_entry eq (rows_of marks values) key (value, mark)) × AreRowsOf marks' values'
     set_rows place marks marks' values values' are m v p =
@@ -179,7 +180,8 @@ module _ {K V M : Type 0} where
         (v ∙ ap (λ xs. with_entry xs place key value) are.values_are ∙ values-set rows place p)
 
 -- a value that is put at the place of its key
-insert-place : {K X : Type 0} → (eq : K → K → Bool) (key : K) (x : X) (es : List (K × X)) (i : ℕ) → place_by (eq key) es ≡ Some i → set_value_at es i x ≡ insert_entry eq es key x
+insert-place : {K X : Type 0} → (eq : K → K → Bool) (key : K) (x : X) (es : List (K × X)) (i : ℕ)
+    → place_by (eq key) es ≡ Some i → set_value_at es i x ≡ insert_entry eq es key x
 insert-place eq key x [] i p = absurd (cc)
 insert-place eq key x (e ∷ es) i p = elim (truth (eq key e.0)) [
   | inl s ↦
@@ -193,7 +195,8 @@ insert-place eq key x (e ∷ es) i p = elim (truth (eq key e.0)) [
       ∙ sym (if_false _ _ _ s)
 ]
 
-pub insert-there : {K X : Type 0} → (eq : K → K → Bool) (key : K) (x : X) (es : List (K × X)) (i : ℕ) → position (eq key) (keys_of es) ≡ Some i
+pub insert-there : {K X : Type 0} → (eq : K → K → Bool) (key : K) (x : X) (es : List (K × X)) (i : ℕ)
+    → position (eq key) (keys_of es) ≡ Some i
     → set_value_at es i x ≡ insert_entry eq es key x
 insert-there eq key x es i p = insert-place eq key x es i (sym (position-place (eq key) es) ∙ p)
 
@@ -207,7 +210,8 @@ bound-by test (e ∷ es) i p = elim (truth (test e.0)) [
 pub place-bound : {K X : Type 0} → (test : K → Bool) (es : List (K × X)) (i : ℕ) → position test (keys_of es) ≡ Some i → i < length es
 place-bound test es i p = bound-by test es i (sym (position-place test es) ∙ p)
 
-all-keys : {K X : Type 0} → (P : K → Type 0) (es : List (K × X)) → AllByRecursion P (keys_of es) → (i : ℕ) (k : K) (x : X) → slice_get es i ≡ Some (k, x) → P k
+all-keys : {K X : Type 0} → (P : K → Type 0) (es : List (K × X)) → AllByRecursion P (keys_of es)
+    → (i : ℕ) (k : K) (x : X) → slice_get es i ≡ Some (k, x) → P k
 all-keys P [] a i k x h = absurd (cc)
 all-keys P (e ∷ es) a zero k x h = let same : e ≡ (k, x) = cc in subst (λ t. P t) (ap (λ t. t.0) same) a.0
 all-keys P (e ∷ es) a (suc i) k x h = all-keys P es a.1 i k x h

@@ -17,7 +17,8 @@ abbrev some_zero : Option ℕ
 some_zero = Some 0
 
 -- entries that are looked through: the first one of the unit has its index, and the others none
-pub index-here : (es : Entries) (u : WorkUnit) (i : ℕ) (e : WorkUnit × Place) → slice_get es i ≡ Some e → index_out (take i es) u ≡ None → same_unit u e.0 ≡ true → index_out es u ≡ Some i
+pub index-here : (es : Entries) (u : WorkUnit) (i : ℕ) (e : WorkUnit × Place) → slice_get es i ≡ Some e
+    → index_out (take i es) u ≡ None → same_unit u e.0 ≡ true → index_out es u ≡ Some i
 index-here [] u i e at before s = absurd (cc)
 index-here (x ∷ es) u zero e at before s = let k : e ≡ x = cc in if_true _ _ _ (ap (λ t. same_unit u t.0) (sym k) ∙ s)
 index-here (x ∷ es) u (suc i) e at before s = elim (truth (same_unit u x.0)) [
@@ -28,7 +29,8 @@ index-here (x ∷ es) u (suc i) e at before s = elim (truth (same_unit u x.0)) [
       ∙ ap (λ k. Some k) up
 ]
 
-pub no-index-yet : (es : Entries) (u : WorkUnit) (i : ℕ) (e : WorkUnit × Place) → slice_get es i ≡ Some e → index_out (take i es) u ≡ None → same_unit u e.0 ≡ false → index_out (take (suc i) es) u ≡ None
+pub no-index-yet : (es : Entries) (u : WorkUnit) (i : ℕ) (e : WorkUnit × Place) → slice_get es i ≡ Some e
+    → index_out (take i es) u ≡ None → same_unit u e.0 ≡ false → index_out (take (suc i) es) u ≡ None
 no-index-yet [] u i e at before s = absurd (cc)
 no-index-yet (x ∷ es) u zero e at before s = let k : e ≡ x = cc in if_false _ _ _ (ap (λ t. same_unit u t.0) (sym k) ∙ s)
 no-index-yet (x ∷ es) u (suc i) e at before s = elim (truth (same_unit u x.0)) [
@@ -45,7 +47,8 @@ index-none (x ∷ es) u h = elim (truth (same_unit u x.0)) [
 ]
 
 -- the entry at its index
-pub index-entry : (es : Entries) (u : WorkUnit) (i : ℕ) → index_out es u ≡ Some i → (e : WorkUnit × Place) × (slice_get es i ≡ Some e) × (place_out es u ≡ Some e.1)
+pub index-entry : (es : Entries) (u : WorkUnit) (i : ℕ) → index_out es u ≡ Some i
+    → (e : WorkUnit × Place) × (slice_get es i ≡ Some e) × (place_out es u ≡ Some e.1)
 index-entry [] u i h = absurd (cc)
 index-entry (x ∷ es) u i h = elim (truth (same_unit u x.0)) [
   | inl t ↦
@@ -73,7 +76,8 @@ index-some es u = cases (index_out es u) refl
 abbrev pub places_without : Entries → WorkUnit → WorkUnit → Option Place
 places_without es u v = if same_unit u v then None else place_out es v
 
-pub removed-places : (es : Entries) (u : WorkUnit) (i : ℕ) → StandOnce es → index_out es u ≡ Some i → (v : WorkUnit) → place_out (remove es i) v ≡ places_without es u v
+pub removed-places : (es : Entries) (u : WorkUnit) (i : ℕ) → StandOnce es → index_out es u ≡ Some i → (v : WorkUnit)
+    → place_out (remove es i) v ≡ places_without es u v
 removed-places [] u i d h v = absurd (cc)
 removed-places (x ∷ es) u i d h v = elim (truth (same_unit u x.0)) [
   | inl t ↦

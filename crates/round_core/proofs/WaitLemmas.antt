@@ -42,10 +42,12 @@ waits_found (x ∷ fs) f h = elim (in_cons x fs f h) [
 ]
 
 -- a location that waits for a frame was done, and its last work says so
-pub waits-in : {A : Type 0} → (f : Frame) (o : Option (Done A)) (d : Done A) → Some d ≡ o → unwrap_or (option_map (λ t. list_any (same_frame f) t.work.waits) o) false ≡ true → IsIn f d.work.waits
+pub waits-in : {A : Type 0} → (f : Frame) (o : Option (Done A)) (d : Done A) → Some d ≡ o
+    → unwrap_or (option_map (λ t. list_any (same_frame f) t.work.waits) o) false ≡ true → IsIn f d.work.waits
 waits-in f None d e h = absurd (cc)
 waits-in f (Some t) d e h = let same : t ≡ d = cc in any-in f d.work.waits (ap (λ s. list_any (same_frame f) s.work.waits) (sym same) ∙ h)
 
-pub waits-none : {A : Type 0} → (f : Frame) (o : Option (Done A)) → o ≡ None → unwrap_or (option_map (λ t. list_any (same_frame f) t.work.waits) o) false ≡ true → ⊥
+pub waits-none : {A : Type 0} → (f : Frame) (o : Option (Done A)) → o ≡ None
+    → unwrap_or (option_map (λ t. list_any (same_frame f) t.work.waits) o) false ≡ true → ⊥
 waits-none f None e h = let bad : false ≡ true = h in cc
 waits-none f (Some t) e h = absurd (cc)

@@ -44,7 +44,8 @@ pub record IsServed {A : Type 0} (m : Analysis A) (b : BookState A) : Type 0 whe
   pub start : IsUnder m b.nodes (m.first_node, m.first_state)
   pub done : AllByRecursion (λ d. AreUnder m b.nodes d.work.posts) b.done
 
-all-both : {X : Type 0} (P Q R : X → Type 0) → ((x : X) → P x → Q x → R x) → (xs : List X) → AllByRecursion P xs → AllByRecursion Q xs → AllByRecursion R xs
+all-both : {X : Type 0} (P Q R : X → Type 0) → ((x : X) → P x → Q x → R x) → (xs : List X) → AllByRecursion P xs
+    → AllByRecursion Q xs → AllByRecursion R xs
 all-both P Q R f [] p q = tt
 all-both P Q R f (x ∷ xs) p q = (f x p.0 q.0, all-both P Q R f xs p.1 q.1)
 
@@ -59,7 +60,8 @@ IsServed-opening m keeps o = record {
 }
 
 IsServed-posted : {A : Type 0} (m : Analysis A) → KeepsForm m → IsOrdered m
-    → (b : BookState A) (out : Out A) → AreFormed m out.unit out.at out.exit → IsInForm m b → IsServed m b → IsServed m (posted m b (Some out))
+    → (b : BookState A) (out : Out A) → AreFormed m out.unit out.at out.exit → IsInForm m b → IsServed m b
+    → IsServed m (posted m b (Some out))
 IsServed-posted m keeps o b out f i s =
     let work = m.work out.unit out.at out.exit in
     let p : PostsAreFormed m work.posts = posts-formed m keeps out.unit out.at out.exit f in
@@ -96,6 +98,7 @@ IsServed-replay m keeps o journal l =
     IsServed-replay_from m keeps o (opening m) journal l (IsInForm-opening m keeps) (IsServed-opening m keeps o)
 
 -- what the work of a unit of a finished book posts is under the nodes
-pub finished-under : {A : Type 0} (m : Analysis A) (b : BookState A) (unit : WorkUnit) (d : Done A) → IsServed m b → done_at b.done unit ≡ Some d
+pub finished-under : {A : Type 0} (m : Analysis A) (b : BookState A) (unit : WorkUnit) (d : Done A) → IsServed m b
+    → done_at b.done unit ≡ Some d
     → AreUnder m b.nodes d.work.posts
 finished-under m b unit d s e = (done_at-all (λ x. AreUnder m b.nodes x.work.posts) b.done unit d s.done e).0

@@ -16,7 +16,8 @@ use Rattle.round_core.proofs.Cases.{truth, if_true, if_false}
 use Rattle.round_core.proofs.SameLaws.{same_unit-eq}
 
 module _ {A : Type 0} where
-  pub values-works : (rows : List (WorkUnit × (Work A × Versions))) → map value_part rows ≡ map (λ (d : Done A). (d.unit, d.work)) (map done_of rows)
+  pub values-works : (rows : List (WorkUnit × (Work A × Versions)))
+      → map value_part rows ≡ map (λ (d : Done A). (d.unit, d.work)) (map done_of rows)
   values-works [] = refl
   values-works (row ∷ rows) = ap (λ t. value_part row ∷ t) (values-works rows)
 
@@ -25,7 +26,8 @@ module _ {A : Type 0} where
     abbrev found_as : Work A × Versions → Done A
     found_as found = done_of (unit, found)
 
-    pub lookup-done : (rows : List (WorkUnit × (Work A × Versions))) → done_at (map done_of rows) unit ≡ option_map found_as (lookup test rows)
+    pub lookup-done : (rows : List (WorkUnit × (Work A × Versions)))
+        → done_at (map done_of rows) unit ≡ option_map found_as (lookup test rows)
     lookup-done [] = refl
     lookup-done (row ∷ rows) = elim (truth (same_unit unit row.0)) [
       | inl s ↦
@@ -41,7 +43,8 @@ module _ {A : Type 0} where
     found-done rows None h = lookup-done rows ∙ ap (option_map found_as) h
     found-done rows (Some found) h = lookup-done rows ∙ ap (option_map found_as) h
 
-  pub set-works : (eq : WorkUnit → WorkUnit → Bool) (unit : WorkUnit) → ((k : WorkUnit) → eq unit k ≡ same_unit unit k) → (work : Work A) (versions : Versions)
+  pub set-works : (eq : WorkUnit → WorkUnit → Bool) (unit : WorkUnit) → ((k : WorkUnit) → eq unit k ≡ same_unit unit k)
+      → (work : Work A) (versions : Versions)
       → (rows : List (WorkUnit × (Work A × Versions)))
       → map done_of (insert_entry eq rows unit (work, versions)) ≡ with_done (map done_of rows) (done_of (unit, (work, versions)))
   set-works eq unit t work versions [] = refl

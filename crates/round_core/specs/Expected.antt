@@ -23,7 +23,8 @@ pub record Grows (old new : Agenda) : Type 0 where
 abbrev pub ExpectsNode : {A : Type 0} → List (Done A) → Agenda → Agenda → Node → ℕ → Type 0
 ExpectsNode done old new (At pc calls frame) node = IsIn (place.One node) new.candidates.keys
     × ((left : Frame) → waits_for done (At pc calls frame) left ≡ true → HasReturnsTo new.candidates.keys node (places_in old.exits left))
-ExpectsNode done old new (Exit pc frame) exit = IsIn exit (places_in new.exits frame) × HasReturnsFrom new.candidates.keys (places_in old.waiting frame) exit
+ExpectsNode done old new (Exit pc frame) exit =
+    IsIn exit (places_in new.exits frame) × HasReturnsFrom new.candidates.keys (places_in old.waiting frame) exit
 
 -- each of the rows has its place, and what it may make claimable is expected
 abbrev pub ExpectsRows : {A : Type 0} → List (Done A) → Agenda → Agenda → List (Held A) → List (Held A) → Type 0
@@ -37,5 +38,6 @@ ExpectsUnit old new nodes (unit.One node) versions frames = (at : ℕ) → place
     → (HasRisen versions (versions_of nodes (unit.One node)) → IsIn (place.One at) new.candidates.keys)
     × ((frame : Frame) → IsIn frame frames → IsIn at (places_in new.waiting frame))
     × ((frame : Frame) → IsIn frame frames → HasReturnsTo new.candidates.keys at (places_in old.exits frame))
-ExpectsUnit old new nodes (unit.Back node exit) versions frames = (at from : ℕ) → place_of nodes node ≡ Some at → place_of nodes exit ≡ Some from
+ExpectsUnit old new nodes (unit.Back node exit) versions frames =
+    (at from : ℕ) → place_of nodes node ≡ Some at → place_of nodes exit ≡ Some from
     → HasRisen versions (versions_of nodes (unit.Back node exit)) → IsIn (place.Back at from) new.candidates.keys

@@ -42,13 +42,16 @@ module _ {A : Type 0} where
     pub done : p.works.rows ≡ b.done
     pub distinct : AreDistinct b.nodes
     pub home : (unit : WorkUnit) → out_at b.out unit ≡ None → place_out p.turns.out unit ≡ None
-    pub out : (unit : WorkUnit) (o : Out A) → out_at b.out unit ≡ Some o → (place : Place) × (place_out p.turns.out unit ≡ Some place) × (placed b.nodes unit ≡ Some place)
+    pub out : (unit : WorkUnit) (o : Out A) → out_at b.out unit ≡ Some o
+        → (place : Place) × (place_out p.turns.out unit ≡ Some place) × (placed b.nodes unit ≡ Some place)
     pub count : length p.turns.out ≡ length b.out
     pub apart : AreApart b.out
     pub given_back : AreGivenBack p.turns
     pub expected : (unit : WorkUnit) → IsClaimable b unit → IsExpected b.nodes p.agenda.candidates.keys p.turns.returned unit
-    pub waiting : (node : Node) (frame : Frame) → waits_for b.done node frame ≡ true → (place : ℕ) × (place_of b.nodes node ≡ Some place) × IsIn place (places_in p.agenda.waiting frame)
-    pub exits : (pc : ℕ) (frame : Frame) (place : ℕ) → place_of b.nodes (Exit pc frame) ≡ Some place → IsIn place (places_in p.agenda.exits frame)
+    pub waiting : (node : Node) (frame : Frame) → waits_for b.done node frame ≡ true
+        → (place : ℕ) × (place_of b.nodes node ≡ Some place) × IsIn place (places_in p.agenda.waiting frame)
+    pub exits : (pc : ℕ) (frame : Frame) (place : ℕ) → place_of b.nodes (Exit pc frame) ≡ Some place
+        → IsIn place (places_in p.agenda.exits frame)
 
   -- the unit that is found at a place, where it can be claimed
   abbrev pub found_at : Parts A → Place → Option WorkUnit

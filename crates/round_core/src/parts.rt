@@ -152,7 +152,8 @@ impl<A> Parts<A> {
         requires { self.old.turns.returned ≡ [] }
         ensures shown { StaysShown self.old self.new }
         ensures turns { self.new.turns ≡ self.old.turns }
-        ensures found { (b : BookState A) → Shows b self.old → MatchOption result (NoneClaimable b) (λ found. IsFirst b found.1 × (placed b.nodes found.1 ≡ Some found.0)) }
+        ensures found { (b : BookState A) → Shows b self.old
+            → MatchOption result (NoneClaimable b) (λ found. IsFirst b found.1 × (placed b.nodes found.1 ≡ Some found.0)) }
     {
         while let Some(place) = self.agenda.candidates.first().copied() {
             match self.claimable_at(place) {
@@ -300,7 +301,8 @@ impl<A> Parts<A> {
     pub fn give_back(&mut self, seat: u32, unit: &Unit)
         requires { IsSome (place_out self.old.turns.out unit.now) }
         ensures journal { self.new.turns.journal ≡ self.old.turns.journal ++ Event.GiveBack seat unit.now ∷ [] }
-        ensures home { (b : BookState A) (o : Out A) → Shows b self.old → out_at b.out unit.now ≡ Some o → Shows (record b { out = without b.out unit.now }) self.new }
+        ensures home { (b : BookState A) (o : Out A) → Shows b self.old → out_at b.out unit.now ≡ Some o
+            → Shows (record b { out = without b.out unit.now }) self.new }
     {
         self.turns.give_back(seat, unit);
     }

@@ -68,7 +68,9 @@ impl<A: Drop> Raised<A> {
     /// counts are refused.
     pub fn put(&mut self, risen: Risen<A>) -> Result<usize, Memory>
         ensures rows { OnOk result (held_rows self.new.rows.items ≡ with_held (held_rows self.old.rows.items) (held_of risen)) }
-        ensures over { (nodes : List (Held A)) → RisesOver nodes self.old → risen.place ≡ place_for (with_all nodes (held_rows self.old.rows.items)) risen.node → OnOk result (RisesOver nodes self.new) }
+        ensures over { (nodes : List (Held A)) → RisesOver nodes self.old
+            → risen.place ≡ place_for (with_all nodes (held_rows self.old.rows.items)) risen.node
+            → OnOk result (RisesOver nodes self.new) }
     {
         let place = risen.place;
         match index_of(self.rows.as_slice(), &risen.node) {

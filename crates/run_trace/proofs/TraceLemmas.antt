@@ -39,7 +39,8 @@ module _ {S W : Type 0} (runner : Runner S W) (text_of : ℕ → List ℕ → Li
   pub met : (left more steps : ℕ) (s t : S) (choices rest : List ℕ) (singles : List Single) (items : List Item) (text new : List ℕ) (whole : Ended)
       → left ≡ suc more → runner.step s choices ≡ Some (Next singles t, rest) → items ≡ map runner.item singles
       → new ≡ text ++ flat_map (λ item. item_line_of text_of item ++ codes "\n") items
-      → after text (run_from runner text_of left steps s choices) ≡ whole → after new (run_from runner text_of more (steps + 1) t rest) ≡ whole
+      → after text (run_from runner text_of left steps s choices) ≡ whole
+      → after new (run_from runner text_of more (steps + 1) t rest) ≡ whole
   met left more steps s t choices rest singles items text new whole size is shown new_is so_far =
       let onward = run_from runner text_of more (steps + 1) t rest in
       let next = next_is left more steps s choices (after (met_lines runner text_of singles) onward) size

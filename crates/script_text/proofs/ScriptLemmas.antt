@@ -4,7 +4,8 @@ use Rattle.script_text.specs.Script.{is_number, number_of, numbers_behind}
 use Rattle.std.proofs.lemmas.Bool.{cases_Bool}
 
 -- lines behind those that gave these numbers
-pub behind_more : (whole lines : List (List ℕ)) (count n : ℕ) (numbers got : List ℕ) → numbers_behind count numbers whole ≡ Ok got → n ≡ count + length whole →
+pub behind_more : (whole lines : List (List ℕ)) (count n : ℕ) (numbers got : List ℕ)
+    → numbers_behind count numbers whole ≡ Ok got → n ≡ count + length whole →
     numbers_behind count numbers (whole ++ lines) ≡ numbers_behind n got lines
 behind_more [] lines count n numbers got e is =
     let same : numbers ≡ got = cc in

@@ -55,7 +55,8 @@ behind_whole whole lines begun numbers read =
     behind_more (map without_return whole) lines 0 (length whole) [] numbers read.denotes (omega (arith, length-map whole without_return))
 
 -- the line feed behind the line
-pub read_feed : (whole : List (List ℕ)) (begun numbers got : List ℕ) → HasRead whole begun numbers → Takes (length whole) numbers (without_return begun) got →
+pub read_feed : (whole : List (List ℕ)) (begun numbers got : List ℕ) → HasRead whole begun numbers
+    → Takes (length whole) numbers (without_return begun) got →
     length (joined whole begun) < 268435456 → HasRead (whole ++ begun ∷ []) [] got
 read_feed whole begun numbers got read takes room =
     let text = joined_feed whole begun in
@@ -83,12 +84,14 @@ as_it_stands : (whole : List (List ℕ)) (begun numbers : List ℕ) → HasRead 
 as_it_stands whole begun numbers read =
     ap script_of (sym (append-nil (joined whole begun))) ∙ ap numbers_of (read.cut []) ∙ behind_whole whole (last_line begun) begun numbers read
 
-pub none_refused : (whole : List (List ℕ)) (begun numbers : List ℕ) (k : ℕ) → HasRead whole begun numbers → IsRefusedWithin (joined whole begun) k → ⊥
+pub none_refused : (whole : List (List ℕ)) (begun numbers : List ℕ) (k : ℕ) → HasRead whole begun numbers
+    → IsRefusedWithin (joined whole begun) k → ⊥
 none_refused whole begun numbers k read refused =
     let above = refused_above (last_line begun) (length whole) k numbers (sym (as_it_stands whole begun numbers read) ∙ refused.0) in
     omega (arith, refused.1, read.feeds)
 
-pub end_feed : (whole : List (List ℕ)) (begun numbers : List ℕ) → HasRead whole begun numbers → length begun ≡ 0 → script_of (joined whole begun) ≡ Ok numbers
+pub end_feed : (whole : List (List ℕ)) (begun numbers : List ℕ) → HasRead whole begun numbers → length begun ≡ 0
+    → script_of (joined whole begun) ≡ Ok numbers
 end_feed whole [] numbers read empty = as_it_stands whole [] numbers read
 end_feed whole (b ∷ begun) numbers read empty = absurd (omega arith)
 
@@ -104,7 +107,8 @@ feeds_one : (b : ℕ) → (b == 10) ≡ true → feeds_of (b ∷ []) ≡ 1
 feeds_one b feed = rw feed refl
 
 -- a line that is refused, or one behind it, where it is so behind other lines
-line_stays : (line : List ℕ) (these those : List (List ℕ)) (numbers : List ℕ) (count k : ℕ) → numbers_behind count numbers (line ∷ these) ≡ Err k →
+line_stays : (line : List ℕ) (these those : List (List ℕ)) (numbers : List ℕ) (count k : ℕ)
+    → numbers_behind count numbers (line ∷ these) ≡ Err k →
     ((got : List ℕ) → numbers_behind (suc count) got these ≡ Err k → numbers_behind (suc count) got those ≡ Err k) →
     numbers_behind count numbers (line ∷ those) ≡ Err k
 line_stays [] these those numbers count k e next = next numbers e
@@ -131,18 +135,21 @@ pub refusal_stays : (text more : List ℕ) (k : ℕ) → IsRefusedWithin text k 
 refusal_stays text more k refused =
     (front_refused text more [] [] 0 k refused.0 (omega (arith, refused.1)), omega (arith, refused.1, feeds_append text more))
 
-pub count_lines : {A : Type 0} (line_of : A → List ℕ) (items : List A) (n size : ℕ) → n ≡ size → size ≡ length items → n ≡ length (map line_of items)
+pub count_lines : {A : Type 0} (line_of : A → List ℕ) (items : List A) (n size : ℕ) → n ≡ size → size ≡ length items
+    → n ≡ length (map line_of items)
 count_lines line_of items n size count is = count ∙ is ∙ sym (length-map items line_of)
 
 -- what the next line's error tells of the text with its line feed
-pub tells_feed : (whole : List (List ℕ)) (begun numbers : List ℕ) (count : ℕ) (error : ScriptError) → HasRead whole begun numbers → count ≡ length whole →
+pub tells_feed : (whole : List (List ℕ)) (begun numbers : List ℕ) (count : ℕ) (error : ScriptError)
+    → HasRead whole begun numbers → count ≡ length whole →
     TellsLine count numbers (without_return begun) error → TellsFront (joined whole begun ++ 10 ∷ []) error
 tells_feed whole begun numbers count (Syntax k) read is tells =
     feed_refused whole begun numbers k read (omega (arith, tells.0)) (λ lines. rw is at (tells.1 lines))
 tells_feed whole begun numbers count Memory read is tells = tt
 
 -- and without one, at the end
-pub tells_end : (whole : List (List ℕ)) (begun numbers : List ℕ) (count : ℕ) (error : ScriptError) → HasRead whole begun numbers → 0 < length begun →
+pub tells_end : (whole : List (List ℕ)) (begun numbers : List ℕ) (count : ℕ) (error : ScriptError)
+    → HasRead whole begun numbers → 0 < length begun →
     count ≡ length whole → TellsLine count numbers (without_return begun) error → TellsWhole (joined whole begun) error
 tells_end whole begun numbers count (Syntax k) read some is tells =
     end_line whole begun numbers read some ∙ rw is at (tells.1 [])
@@ -154,7 +161,8 @@ tells_more text more (Syntax k) tells = refusal_stays text more k tells
 tells_more text more Memory tells = tt
 
 -- a further byte of a piece
-pub piece_step : (text piece : List ℕ) (i : ℕ) → i < length piece → (text ++ take i piece) ++ get_or piece i 0 ∷ [] ≡ text ++ take (i + 1) piece
+pub piece_step : (text piece : List ℕ) (i : ℕ) → i < length piece
+    → (text ++ take i piece) ++ get_or piece i 0 ∷ [] ≡ text ++ take (i + 1) piece
 piece_step text piece i h =
     let next : i + 1 ≡ suc i = omega arith in
     rw next (append_assoc text (take i piece) (get_or piece i 0 ∷ []) ∙ ap (λ t. text ++ t) (sym (take-suc piece i 0 h)))

@@ -93,7 +93,8 @@ fn first_of(set: &Vs8) -> u8 {
 
 /// Whether two sets and carries have at most 256 combinations.
 fn has_few_results(first: &Vs8, second: &Vs8, carry: &Vs8) -> bool
-    ensures { IsTrue result → length (members_of 256 first.now) * (length (members_of 256 second.now) * length (members_of 256 carry.now)) ≤ 256 }
+    ensures { IsTrue result
+        → length (members_of 256 first.now) * (length (members_of 256 second.now) * length (members_of 256 carry.now)) ≤ 256 }
 {
     let pairs = u64::from(second.count()) * u64::from(carry.count());
     u64::from(first.count()) * pairs <= 256

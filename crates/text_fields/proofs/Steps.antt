@@ -15,7 +15,8 @@ prefixed front parts = option_map (λ p. (front ++ p.0, p.1)) parts
 -- NUMBERS
 
 -- the last digit behind the others
-pub hex_last : (digits n digit : ℕ) (old before all : List ℕ) → 1 ≤ digits → before ≡ old ++ hex (digits - 1) (n / 16) → all ≡ before ++ digit ∷ []
+pub hex_last : (digits n digit : ℕ) (old before all : List ℕ) → 1 ≤ digits → before ≡ old ++ hex (digits - 1) (n / 16)
+    → all ≡ before ++ digit ∷ []
     → digit ≡ hex_digit (n % 16)
     → all ≡ old ++ hex digits n
 hex_last zero n digit old before all some is pushed same = absurd (omega arith)
@@ -27,7 +28,8 @@ hex_last (suc digits) n digit old before all some is pushed same =
 -- LISTS
 
 -- all values behind the first one
-pub list_pushed : {A : Type 0} (s : Spelling A) (at : ℕ) (values others : List A) (first : A) (i : ℕ) (old pushed all : List ℕ) → 1 ≤ length values
+pub list_pushed : {A : Type 0} (s : Spelling A) (at : ℕ) (values others : List A) (first : A) (i : ℕ) (old pushed all : List ℕ)
+    → 1 ≤ length values
     → first ≡ get_or values 0 first
     → others ≡ take (length values - 1) (drop 1 values) → length others ≤ i → pushed ≡ old ++ s.text first
     → all ++ others_text s at (drop i others) ≡ pushed ++ others_text s at others → all ≡ old ++ (listed s at).text values

@@ -66,7 +66,8 @@ abbrev pub tailed_text : {A B : Type 0} → ℕ → (A → List ℕ) → (B → 
 tailed_text at first second a None = first a
 tailed_text at first second a (Some b) = first a ++ at ∷ second b
 
-abbrev pub tailed_value : {A B : Type 0} → (List ℕ → Option A) → (List ℕ → Option B) → (text : List ℕ) → Option (List ℕ × List ℕ) → Option (A × Option B)
+abbrev pub tailed_value : {A B : Type 0} → (List ℕ → Option A) → (List ℕ → Option B) → (text : List ℕ)
+    → Option (List ℕ × List ℕ) → Option (A × Option B)
 tailed_value first second text None = option_map (λ a. (a, None)) (first text)
 tailed_value first second text (Some parts) = option_and_then (λ a. option_map (λ b. (a, Some b)) (second parts.1)) (first parts.0)
 
@@ -199,7 +200,8 @@ named_is_exact s name h = record {
       let one = h.only rest a found in (one.0, ap (λ (t : List ℕ). name ++ t) one.1 ∙ behind_only name text rest is));
 }
 
-pub named_avoids : {A : Type 0} (s : Spelling A) (name : List ℕ) (at : ℕ) → has_byte at name ≡ false → Avoids s at → Avoids (named s name) at
+pub named_avoids : {A : Type 0} (s : Spelling A) (name : List ℕ) (at : ℕ) → has_byte at name ≡ false → Avoids s at
+    → Avoids (named s name) at
 named_avoids s name at none h = λ a form. has_byte-both at name (s.text a) none (h a form)
 
 -- TESTS
@@ -221,7 +223,8 @@ marked_back : {A : Type 0} (s : Spelling A) (mark : List ℕ) → IsExact s → 
 marked_back s mark h other None form = rw (bytes_same mark mark refl) refl
 marked_back s mark h other (Some a) form = rw (other a form, h.back a form) refl
 
-marked_only : {A : Type 0} (s : Spelling A) (mark : List ℕ) → IsExact s → (text : List ℕ) (a : Option A) (is_mark : Bool) → bytes_eq text mark ≡ is_mark
+marked_only : {A : Type 0} (s : Spelling A) (mark : List ℕ) → IsExact s
+    → (text : List ℕ) (a : Option A) (is_mark : Bool) → bytes_eq text mark ≡ is_mark
     → (if is_mark then Some None else option_map Some (s.value text)) ≡ Some a → IfForm s.Form a × (marked_text s.text mark a ≡ text)
 marked_only s mark h text a true is e = subst (λ q. IfForm s.Form q × (marked_text s.text mark q ≡ text)) (same_Some None a e)
     (tt, sym (same_bytes text mark is))
@@ -241,15 +244,18 @@ pub longer_differs : (text : List ℕ) (mark : ℕ) → 2 ≤ length text → by
 longer_differs text mark long = other_bytes text (mark ∷ []) (λ e. absurd (omega (arith, ap length e)))
 
 -- nor is a text with a byte that the mark hasn't, or without one that it has
-pub byte_differs : (at : ℕ) (text mark : List ℕ) (in_mark : Bool) → has_byte at mark ≡ in_mark → (has_byte at text ≡ in_mark → ⊥) → bytes_eq text mark ≡ false
+pub byte_differs : (at : ℕ) (text mark : List ℕ) (in_mark : Bool) → has_byte at mark ≡ in_mark
+    → (has_byte at text ≡ in_mark → ⊥) → bytes_eq text mark ≡ false
 byte_differs at text mark in_mark is other = other_bytes text mark (λ e. other (ap (has_byte at) e ∙ is))
 
-marked_avoids : {A : Type 0} (s : Spelling A) (mark : List ℕ) (at : ℕ) → has_byte at mark ≡ false → Avoids s at → (a : Option A) → IfForm s.Form a
+marked_avoids : {A : Type 0} (s : Spelling A) (mark : List ℕ) (at : ℕ) → has_byte at mark ≡ false → Avoids s at
+    → (a : Option A) → IfForm s.Form a
     → has_byte at (marked_text s.text mark a) ≡ false
 marked_avoids s mark at none h None form = none
 marked_avoids s mark at none h (Some a) form = h a form
 
-pub or_mark_avoids : {A : Type 0} (s : Spelling A) (mark : List ℕ) (at : ℕ) → has_byte at mark ≡ false → Avoids s at → Avoids (or_mark s mark) at
+pub or_mark_avoids : {A : Type 0} (s : Spelling A) (mark : List ℕ) (at : ℕ) → has_byte at mark ≡ false → Avoids s at
+    → Avoids (or_mark s mark) at
 or_mark_avoids s mark at none h = marked_avoids s mark at none h
 
 -- CUTS
@@ -279,7 +285,8 @@ cut_only at (b ∷ text) parts e = elim (cases_Bool (b == at)) [
       subst (λ (p : List ℕ × List ℕ). (p.0 ++ at ∷ p.1 ≡ b ∷ text) × (has_byte at p.0 ≡ false)) is (ap (λ (t : List ℕ). b ∷ t) one.0, rw other one.1))
 ]
 
-pub beside_by_is_exact : {A B : Type 0} (at : ℕ) (s : Spelling A) (t : A → Spelling B) → IsExact s → ((a : A) → s.Form a → IsExact (t a)) → Avoids s at
+pub beside_by_is_exact : {A B : Type 0} (at : ℕ) (s : Spelling A) (t : A → Spelling B) → IsExact s
+    → ((a : A) → s.Form a → IsExact (t a)) → Avoids s at
     → IsExact (beside_by at s t)
 beside_by_is_exact at s t h k apart = record {
   back = λ p form. rw (cut_back at (s.text p.0) ((t p.0).text p.1) (apart p.0 form.0), h.back p.0 form.0, (k p.0 form.0).back p.1 form.1) refl;
@@ -290,12 +297,14 @@ beside_by_is_exact at s t h k apart = record {
       ((one.0, two.0), ap₂ (λ x y. x ++ at ∷ y) one.1 two.1 ∙ cuts.0))));
 }
 
-pub beside_is_exact : {A B : Type 0} (at : ℕ) (s : Spelling A) (t : Spelling B) → IsExact s → IsExact t → Avoids s at → IsExact (beside at s t)
+pub beside_is_exact : {A B : Type 0} (at : ℕ) (s : Spelling A) (t : Spelling B) → IsExact s → IsExact t → Avoids s at
+    → IsExact (beside at s t)
 beside_is_exact at s t h k apart = beside_by_is_exact at s (λ a. t) h (λ a form. k) apart
 
 pub beside_by_avoids : {A B : Type 0} (between at : ℕ) (s : Spelling A) (t : A → Spelling B) → (between == at) ≡ false → Avoids s at
     → ((a : A) → s.Form a → Avoids (t a) at) → Avoids (beside_by between s t) at
-beside_by_avoids between at s t other h k = λ p form. has_byte-between at between (s.text p.0) ((t p.0).text p.1) other (h p.0 form.0) (k p.0 form.0 p.1 form.1)
+beside_by_avoids between at s t other h k =
+    λ p form. has_byte-between at between (s.text p.0) ((t p.0).text p.1) other (h p.0 form.0) (k p.0 form.0 p.1 form.1)
 
 pub beside_avoids : {A B : Type 0} (between at : ℕ) (s : Spelling A) (t : Spelling B) → (between == at) ≡ false → Avoids s at → Avoids t at
     → Avoids (beside between s t) at
@@ -303,7 +312,8 @@ beside_avoids between at s t other h k = beside_by_avoids between at s (λ a. t)
 
 -- TAILS
 
-tailed_back : {A B : Type 0} (at : ℕ) (s : Spelling A) (t : Spelling B) → IsExact s → IsExact t → Avoids s at → (a : A) (b : Option B) → s.Form a
+tailed_back : {A B : Type 0} (at : ℕ) (s : Spelling A) (t : Spelling B) → IsExact s → IsExact t → Avoids s at
+    → (a : A) (b : Option B) → s.Form a
     → IfForm t.Form b
     → (with_tail at s t).value (tailed_text at s.text t.text a b) ≡ Some (a, b)
 tailed_back at s t h k apart a None form more = rw (cut_none at (s.text a) (apart a form), h.back a form) refl
@@ -319,7 +329,8 @@ tailed_only at s t h k text p (Some parts) is e = then_only _ (s.value parts.0) 
     subst (λ q. (s.Form q.0 × IfForm t.Form q.1) × (tailed_text at s.text t.text q.0 q.1 ≡ text)) same
     ((one.0, two.0), ap₂ (λ x y. x ++ at ∷ y) one.1 two.1 ∙ cuts.0)))
 
-pub with_tail_is_exact : {A B : Type 0} (at : ℕ) (s : Spelling A) (t : Spelling B) → IsExact s → IsExact t → Avoids s at → IsExact (with_tail at s t)
+pub with_tail_is_exact : {A B : Type 0} (at : ℕ) (s : Spelling A) (t : Spelling B) → IsExact s → IsExact t → Avoids s at
+    → IsExact (with_tail at s t)
 with_tail_is_exact at s t h k apart = record {
   back = λ p form. tailed_back at s t h k apart p.0 p.1 form.0 form.1;
   only = λ text p e. tailed_only at s t h k text p (cut_at at text) refl e;
@@ -331,26 +342,30 @@ tailed_avoids : {A B : Type 0} (between at : ℕ) (s : Spelling A) (t : Spelling
 tailed_avoids between at s t other h k a None form more = h a form
 tailed_avoids between at s t other h k a (Some b) form more = has_byte-between at between (s.text a) (t.text b) other (h a form) (k b more)
 
-pub with_tail_avoids : {A B : Type 0} (between at : ℕ) (s : Spelling A) (t : Spelling B) → (between == at) ≡ false → Avoids s at → Avoids t at
+pub with_tail_avoids : {A B : Type 0} (between at : ℕ) (s : Spelling A) (t : Spelling B) → (between == at) ≡ false
+    → Avoids s at → Avoids t at
     → Avoids (with_tail between s t) at
 with_tail_avoids between at s t other h k = λ p form. tailed_avoids between at s t other h k p.0 p.1 form.0 form.1
 
 -- ONE OF TWO
 
-either_back : {A B : Type 0} (at : ℕ) (s : Spelling A) (t : Spelling B) → IsExact s → IsExact t → ((a : A) → s.Form a → has_byte at (s.text a) ≡ true)
+either_back : {A B : Type 0} (at : ℕ) (s : Spelling A) (t : Spelling B) → IsExact s → IsExact t
+    → ((a : A) → s.Form a → has_byte at (s.text a) ≡ true)
     → Avoids t at
     → (c : A ⊎ B) → OneForm s.Form t.Form c → (either at s t).value (one_text s.text t.text c) ≡ Some c
 either_back at s t h k has apart (inl a) form = rw (has a form, h.back a form) refl
 either_back at s t h k has apart (inr b) form = rw (apart b form, k.back b form) refl
 
 either_only : {A B : Type 0} (s : Spelling A) (t : Spelling B) → IsExact s → IsExact t → (text : List ℕ) (c : A ⊎ B) (has : Bool)
-    → (if has then option_map inl (s.value text) else option_map inr (t.value text)) ≡ Some c → OneForm s.Form t.Form c × (one_text s.text t.text c ≡ text)
+    → (if has then option_map inl (s.value text) else option_map inr (t.value text)) ≡ Some c
+    → OneForm s.Form t.Form c × (one_text s.text t.text c ≡ text)
 either_only s t h k text c true e = map_only inl (s.value text) c e
     (λ a found same. subst (λ q. OneForm s.Form t.Form q × (one_text s.text t.text q ≡ text)) same (h.only text a found))
 either_only s t h k text c false e = map_only inr (t.value text) c e
     (λ b found same. subst (λ q. OneForm s.Form t.Form q × (one_text s.text t.text q ≡ text)) same (k.only text b found))
 
-pub either_is_exact : {A B : Type 0} (at : ℕ) (s : Spelling A) (t : Spelling B) → IsExact s → IsExact t → ((a : A) → s.Form a → has_byte at (s.text a) ≡ true)
+pub either_is_exact : {A B : Type 0} (at : ℕ) (s : Spelling A) (t : Spelling B) → IsExact s → IsExact t
+    → ((a : A) → s.Form a → has_byte at (s.text a) ≡ true)
     → Avoids t at → IsExact (either at s t)
 either_is_exact at s t h k has apart = record {
   back = either_back at s t h k has apart;
@@ -362,7 +377,8 @@ one_avoids : {A B : Type 0} (at : ℕ) (s : Spelling A) (t : Spelling B) → Avo
 one_avoids at s t h k (inl a) form = h a form
 one_avoids at s t h k (inr b) form = k b form
 
-pub either_avoids : {A B : Type 0} (between at : ℕ) (s : Spelling A) (t : Spelling B) → Avoids s at → Avoids t at → Avoids (either between s t) at
+pub either_avoids : {A B : Type 0} (between at : ℕ) (s : Spelling A) (t : Spelling B) → Avoids s at → Avoids t at
+    → Avoids (either between s t) at
 either_avoids between at s t h k = one_avoids at s t h k
 
 -- the first name doesn't begin what the second one begins
@@ -374,14 +390,17 @@ behind_other (n ∷ name) (m ∷ other) rest e = elim (cases_Bool (m == n)) [
   | inr apart ↦ rw apart refl
 ]
 
-front_back : {A B : Type 0} (name : List ℕ) (s : Spelling A) (other : List ℕ) (t : Spelling B) → IsExact s → IsExact t → are_told_apart name other ≡ true
+front_back : {A B : Type 0} (name : List ℕ) (s : Spelling A) (other : List ℕ) (t : Spelling B) → IsExact s → IsExact t
+    → are_told_apart name other ≡ true
     → (c : A ⊎ B) → OneForm s.Form t.Form c → (either_front name s other t).value ((either_front name s other t).text c) ≡ Some c
 front_back name s other t h k apart (inl a) form = rw (behind_back name (s.text a), h.back a form) refl
-front_back name s other t h k apart (inr b) form = rw (behind_other name other (t.text b) apart, behind_back other (t.text b), k.back b form) refl
+front_back name s other t h k apart (inr b) form =
+    rw (behind_other name other (t.text b) apart, behind_back other (t.text b), k.back b form) refl
 
 front_only : {A B : Type 0} (name : List ℕ) (s : Spelling A) (other : List ℕ) (t : Spelling B) → IsExact s → IsExact t
     → (text : List ℕ) (c : A ⊎ B) (first : Option (List ℕ)) → behind name text ≡ first
-    → front_value s.value t.value first (behind other text) ≡ Some c → OneForm s.Form t.Form c × ((either_front name s other t).text c ≡ text)
+    → front_value s.value t.value first (behind other text) ≡ Some c
+    → OneForm s.Form t.Form c × ((either_front name s other t).text c ≡ text)
 front_only name s other t h k text c (Some rest) is e = map_only inl (s.value rest) c e (λ a found same.
     let one = h.only rest a found in
     subst (λ q. OneForm s.Form t.Form q × ((either_front name s other t).text q ≡ text)) same
@@ -399,7 +418,8 @@ either_front_is_exact name s other t h k apart = record {
   only = λ text c e. front_only name s other t h k text c (behind name text) refl e;
 }
 
-pub either_front_avoids : {A B : Type 0} (name : List ℕ) (s : Spelling A) (other : List ℕ) (t : Spelling B) (at : ℕ) → has_byte at name ≡ false
+pub either_front_avoids : {A B : Type 0} (name : List ℕ) (s : Spelling A) (other : List ℕ) (t : Spelling B) (at : ℕ)
+    → has_byte at name ≡ false
     → has_byte at other ≡ false → Avoids s at → Avoids t at
     → Avoids (either_front name s other t) at
 either_front_avoids name s other t at none nor h k = one_avoids at (named s name) (named t other) (named_avoids s name at none h)
@@ -420,17 +440,20 @@ told_by_is_exact s to from h there = record {
 pub told_by_avoids : {A B : Type 0} (s : Spelling A) (to : A → B) (from : B → A) (at : ℕ) → Avoids s at → Avoids (told_by s to from) at
 told_by_avoids s to from at h = λ b form. h (from b) form.0
 
-pub restated_is_exact : {A : Type 0} (s : Spelling A) (Form : A → Type 0) → IsExact s → ((a : A) → Form a → s.Form a) → ((a : A) → s.Form a → Form a)
+pub restated_is_exact : {A : Type 0} (s : Spelling A) (Form : A → Type 0) → IsExact s → ((a : A) → Form a → s.Form a)
+    → ((a : A) → s.Form a → Form a)
     → IsExact (restated s Form)
 restated_is_exact s Form h narrow wide = record {
   back = λ a form. h.back a (narrow a form);
   only = λ text a e. let one = h.only text a e in (wide a one.0, one.1);
 }
 
-pub restated_avoids : {A : Type 0} (s : Spelling A) (Form : A → Type 0) (at : ℕ) → ((a : A) → Form a → s.Form a) → Avoids s at → Avoids (restated s Form) at
+pub restated_avoids : {A : Type 0} (s : Spelling A) (Form : A → Type 0) (at : ℕ) → ((a : A) → Form a → s.Form a)
+    → Avoids s at → Avoids (restated s Form) at
 restated_avoids s Form at narrow h = λ a form. h a (narrow a form)
 
-pub respelled_is_exact : {A : Type 0} (s : Spelling A) (text : A → List ℕ) → IsExact s → ((a : A) → s.Form a → text a ≡ s.text a) → IsExact (respelled s text)
+pub respelled_is_exact : {A : Type 0} (s : Spelling A) (text : A → List ℕ) → IsExact s
+    → ((a : A) → s.Form a → text a ≡ s.text a) → IsExact (respelled s text)
 respelled_is_exact s text h same = record {
   back = λ a form. rw (same a form) (h.back a form);
   only = λ t a e. let one = h.only t a e in (one.0, same a one.0 ∙ one.1);
@@ -449,7 +472,8 @@ differ_only a b e = elim (cases_Bool (bytes_eq a b)) [
 ]
 
 -- a value whose text is that of the first one, which no later one has, is the first one
-named_apart : {A : Type 0} (text : A → List ℕ) (x a : A) (xs : List A) → list_all (λ other. differ (text x) other) (map text xs) ≡ true → IsOneOf xs a
+named_apart : {A : Type 0} (text : A → List ℕ) (x a : A) (xs : List A)
+    → list_all (λ other. differ (text x) other) (map text xs) ≡ true → IsOneOf xs a
     → bytes_eq (text x) (text a) ≡ false
 named_apart text x a [] apart is = absurd is
 named_apart text x a (y ∷ xs) apart (inl same) = rw (← same) (differ_only (text x) (text y) (and_parts _ _ apart).0)
@@ -482,7 +506,8 @@ abbrev pub none_has : ℕ → List (List ℕ) → Bool
 none_has at [] = true
 none_has at (text ∷ texts) = if has_byte at text then false else none_has at texts
 
-found_avoids : {A : Type 0} (text : A → List ℕ) (values : List A) (at : ℕ) → none_has at (map text values) ≡ true → (a : A) → IsOneOf values a
+found_avoids : {A : Type 0} (text : A → List ℕ) (values : List A) (at : ℕ) → none_has at (map text values) ≡ true
+    → (a : A) → IsOneOf values a
     → has_byte at (text a) ≡ false
 found_avoids text [] at none a is = absurd is
 found_avoids text (x ∷ xs) at none a is = elim (cases_Bool (has_byte at (text x))) [
@@ -490,11 +515,13 @@ found_avoids text (x ∷ xs) at none a is = elim (cases_Bool (has_byte at (text 
   | inr hasnt ↦ elim is [ inl same ↦ subst (λ y. has_byte at (text y) ≡ false) same hasnt | inr later ↦ found_avoids text xs at (rw hasnt at none) a later ]
 ]
 
-pub one_of_avoids : {A : Type 0} (text : A → List ℕ) (values : List A) (at : ℕ) → none_has at (map text values) ≡ true → Avoids (one_of text values) at
+pub one_of_avoids : {A : Type 0} (text : A → List ℕ) (values : List A) (at : ℕ) → none_has at (map text values) ≡ true
+    → Avoids (one_of text values) at
 one_of_avoids text values at none = λ a is. found_avoids text values at none a is
 
 -- the number of the first row isn't that of a later one, nor is its name
-row_apart : (row : ℕ × List ℕ) (rows : List (ℕ × List ℕ)) (n : ℕ) → list_all (λ other. if other.0 == row.0 then false else differ row.1 other.1) rows ≡ true
+row_apart : (row : ℕ × List ℕ) (rows : List (ℕ × List ℕ)) (n : ℕ)
+    → list_all (λ other. if other.0 == row.0 then false else differ row.1 other.1) rows ≡ true
     → is_named rows n ≡ true
     → ((row.0 == n) ≡ false) × (bytes_eq row.1 (name_in rows n) ≡ false)
 row_apart row [] n apart is = absurd (false≢true is)
@@ -511,7 +538,8 @@ row_apart row (other ∷ rows) n apart is =
       ]
     ]
 
-named_back : (rows : List (ℕ × List ℕ)) (n : ℕ) → are_rows_apart rows ≡ true → is_named rows n ≡ true → number_in rows (name_in rows n) ≡ Some n
+named_back : (rows : List (ℕ × List ℕ)) (n : ℕ) → are_rows_apart rows ≡ true → is_named rows n ≡ true
+    → number_in rows (name_in rows n) ≡ Some n
 named_back [] n apart is = absurd (false≢true is)
 named_back (row ∷ rows) n apart is =
     let parts = and_parts _ (are_rows_apart rows) apart in
@@ -569,7 +597,8 @@ below_passes test (suc k) n all less = elim (cases_Bool (n == k)) [
 ]
 
 -- and for each number that a table names
-pub named_passes : (test : ℕ → Bool) (rows : List (ℕ × List ℕ)) (n : ℕ) → list_all (λ row. test row.0) rows ≡ true → is_named rows n ≡ true → test n ≡ true
+pub named_passes : (test : ℕ → Bool) (rows : List (ℕ × List ℕ)) (n : ℕ) → list_all (λ row. test row.0) rows ≡ true
+    → is_named rows n ≡ true → test n ≡ true
 named_passes test [] n all is = absurd (false≢true is)
 named_passes test (row ∷ rows) n all is =
     let parts = and_parts (test row.0) (list_all (λ row. test row.0) rows) all in

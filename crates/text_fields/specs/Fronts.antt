@@ -65,7 +65,8 @@ in_front_only at s h text p e = then_only _ (cut_at at text) p e (λ parts is re
     let one = h.only parts.0 a found in let cuts = cut_only at text parts is in
     subst (λ q. s.Form q.0 × (s.text q.0 ++ at ∷ q.1 ≡ text)) same (one.0, ap (λ (t : List ℕ). t ++ at ∷ parts.1) one.1 ∙ cuts.0)))
 
-each_back : {A : Type 0} (at : ℕ) (s : Spelling A) → IsExact s → Avoids s at → (names : List (List ℕ)) → AllByRecursion (λ name. has_byte at name ≡ false) names
+each_back : {A : Type 0} (at : ℕ) (s : Spelling A) → IsExact s → Avoids s at → (names : List (List ℕ))
+    → AllByRecursion (λ name. has_byte at name ≡ false) names
     → (xs : List A) (rest : List ℕ) → length xs ≡ length names → AllByRecursion s.Form xs
     → each_in_front at s names (named_texts at s.text names xs ++ rest) ≡ Some (xs, rest)
 each_back at s h apart [] none [] rest long forms = refl
@@ -98,7 +99,8 @@ each_only at s h (name ∷ names) text p e = then_only _ (in_front at (named s n
           ∙ ap (λ (t : List ℕ). (name ++ s.text first.0) ++ at ∷ t) others.2 ∙ one.1,
     )))
 
-pub each_beside_is_exact : {A B : Type 0} (at : ℕ) (names : List (List ℕ)) (s : Spelling A) (t : Spelling B) → IsExact s → IsExact t → Avoids s at
+pub each_beside_is_exact : {A B : Type 0} (at : ℕ) (names : List (List ℕ)) (s : Spelling A) (t : Spelling B) → IsExact s
+    → IsExact t → Avoids s at
     → AllByRecursion (λ name. has_byte at name ≡ false) names → IsExact (each_beside at names s t)
 each_beside_is_exact at names s t h k apart none = record {
   back = λ p form. rw (each_back at s h apart names none p.0 (t.text p.1) form.0 form.1, k.back p.1 form.2) refl;

@@ -28,7 +28,8 @@ pub record AreNames (names : List (List ℕ)) : Type 0 where
 pub item_line : {A : Type 0} {s : Spelling A} → IsItem s → IsLine s
 item_line item = record { exact = item.exact; no_feed = item.no_feed }
 
-pub named_item : {A : Type 0} {s : Spelling A} (name : List ℕ) → has_byte 32 name ≡ false → has_byte 10 name ≡ false → IsItem s → IsItem (named s name)
+pub named_item : {A : Type 0} {s : Spelling A} (name : List ℕ) → has_byte 32 name ≡ false → has_byte 10 name ≡ false
+    → IsItem s → IsItem (named s name)
 named_item {s = s} name no_space no_feed item = record {
   exact = named_is_exact s name item.exact;
   no_space = named_avoids s name 32 no_space item.no_space;
@@ -43,7 +44,8 @@ passing_item {s = s} test item = record {
 }
 
 -- the same said in other words
-pub restated_item : {A : Type 0} (s : Spelling A) (Form : A → Type 0) → ((a : A) → Form a → s.Form a) → ((a : A) → s.Form a → Form a) → IsItem s
+pub restated_item : {A : Type 0} (s : Spelling A) (Form : A → Type 0) → ((a : A) → Form a → s.Form a)
+    → ((a : A) → s.Form a → Form a) → IsItem s
     → IsItem (restated s Form)
 restated_item s Form narrow wide item = record {
   exact = restated_is_exact s Form item.exact narrow wide;
@@ -51,7 +53,8 @@ restated_item s Form narrow wide item = record {
   no_feed = restated_avoids s Form 10 narrow item.no_feed;
 }
 
-pub told_item : {A B : Type 0} {s : Spelling A} (to : A → B) (from : B → A) → ((a : A) → s.Form a → from (to a) ≡ a) → IsItem s → IsItem (told_by s to from)
+pub told_item : {A B : Type 0} {s : Spelling A} (to : A → B) (from : B → A) → ((a : A) → s.Form a → from (to a) ≡ a)
+    → IsItem s → IsItem (told_by s to from)
 told_item {s = s} to from again item = record {
   exact = told_by_is_exact s to from item.exact again;
   no_space = told_by_avoids s to from 32 item.no_space;
@@ -82,7 +85,8 @@ told_line {s = s} to from Form again narrow wide line = record {
 -- READING, one front after another
 
 -- what is read in front of a text, and then in front of the text behind it
-abbrev pub both_in_front : {A B : Type 0} → (List ℕ → Option (A × List ℕ)) → (List ℕ → Option (B × List ℕ)) → List ℕ → Option ((A × B) × List ℕ)
+abbrev pub both_in_front : {A B : Type 0} → (List ℕ → Option (A × List ℕ)) → (List ℕ → Option (B × List ℕ)) → List ℕ
+    → Option ((A × B) × List ℕ)
 both_in_front first second text = option_and_then (λ one. option_map (λ two. ((one.0, two.0), two.1)) (second one.1)) (first text)
 
 -- what is made of a front, and of the text behind it
@@ -117,7 +121,8 @@ first_front : {F G R W V : Type 0} (make : F → V → W) (more : G → R → V)
     → behind_front make between first
     ≡ behind_front {F = F × G} (λ p r. make p.0 (more p.1 r)) rest (option_and_then (λ p. option_map (λ two. ((p.0, two.0), two.1)) (front p.1)) first)
 first_front make more between front rest read None = refl
-first_front make more between front rest read (Some p) = ap (option_map (make p.0)) (read.is p.1) ∙ second_front make more rest p.0 (front p.1)
+first_front make more between front rest read (Some p) =
+    ap (option_map (make p.0)) (read.is p.1) ∙ second_front make more rest p.0 (front p.1)
 
 -- a front and then another
 pub then_read : {F G R W V : Type 0} {whole : List ℕ → Option W} {first : List ℕ → Option (F × List ℕ)} {between : List ℕ → Option V} {make : F → V → W}
@@ -132,9 +137,11 @@ then_read {first = first} {between = between} {make = make} {second = second} {r
 -- no front is read
 pub no_front : {F R W V : Type 0} {whole : List ℕ → Option W} {front : List ℕ → Option (F × List ℕ)} {rest : List ℕ → Option R} {make : F → R → W}
     → IsReadAs whole front rest make → (made : W → V) (text : List ℕ) → None ≡ front text → None ≡ option_map made (whole text)
-no_front {rest = rest} {make = make} read made text none = sym (ap (option_map made) (read.is text ∙ ap (behind_front make rest) (sym none)))
+no_front {rest = rest} {make = make} read made text none =
+    sym (ap (option_map made) (read.is text ∙ ap (behind_front make rest) (sym none)))
 
-none_made : {F R W V A : Type 0} (make : F → R → W) (made : W → V) (view : R → A) (first : F) (more : Option R) → None ≡ option_map view more
+none_made : {F R W V A : Type 0} (make : F → R → W) (made : W → V) (view : R → A) (first : F) (more : Option R)
+    → None ≡ option_map view more
     → option_map made (option_map (make first) more) ≡ None
 none_made make made view first None e = refl
 none_made make made view first (Some r) e = absurd (none-some (view r) e)
@@ -155,7 +162,8 @@ some_made make made view first state same (Some r) found e = ap Some (same r) �
 -- both are read
 pub rest_read : {F R W V A : Type 0} {whole : List ℕ → Option W} {front : List ℕ → Option (F × List ℕ)} {rest : List ℕ → Option R} {make : F → R → W}
     → IsReadAs whole front rest make → (made : W → V) (view : R → A) (text behind : List ℕ) (first : F) (state : A → V)
-    → ((r : R) → made (make first r) ≡ state (view r)) → (found : A) → Some (first, behind) ≡ front text → Some found ≡ option_map view (rest behind)
+    → ((r : R) → made (make first r) ≡ state (view r)) → (found : A) → Some (first, behind) ≡ front text
+    → Some found ≡ option_map view (rest behind)
     → Some (state found) ≡ option_map made (whole text)
 rest_read {rest = rest} {make = make} read made view text behind first state same found is found_is =
     sym (ap (option_map made) (read.is text ∙ ap (behind_front make rest) (sym is)) ∙ some_made make made view first state same (rest behind) found found_is)
@@ -165,7 +173,8 @@ rest_read {rest = rest} {make = make} read made view text behind first state sam
 -- what follows a text and the space behind it
 pub behind_space : (before after text rest : List ℕ) → after ≡ before ++ (text ++ 32 ∷ []) → after ++ rest ≡ before ++ (text ++ 32 ∷ rest)
 behind_space before after text rest pushed =
-    ap (λ (t : List ℕ). t ++ rest) pushed ∙ append_assoc before (text ++ 32 ∷ []) rest ∙ ap (λ (t : List ℕ). before ++ t) (append_assoc text (32 ∷ []) rest)
+    ap (λ (t : List ℕ). t ++ rest) pushed ∙ append_assoc before (text ++ 32 ∷ []) rest
+    ∙ ap (λ (t : List ℕ). before ++ t) (append_assoc text (32 ∷ []) rest)
 
 pub behind_text : (before after text rest : List ℕ) → after ≡ before ++ text → after ++ rest ≡ before ++ (text ++ rest)
 behind_text before after text rest pushed = ap (λ (t : List ℕ). t ++ rest) pushed ∙ append_assoc before text rest

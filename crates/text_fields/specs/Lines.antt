@@ -49,7 +49,8 @@ read_on step count lines (Err fault) = Err fault
 
 -- LAWS
 
-onto_joined : (b : ℕ) (lines : List (List ℕ)) (rest : List ℕ) → joined (onto_lines b lines rest).0 (onto_lines b lines rest).1 ≡ b ∷ joined lines rest
+onto_joined : (b : ℕ) (lines : List (List ℕ)) (rest : List ℕ)
+    → joined (onto_lines b lines rest).0 (onto_lines b lines rest).1 ≡ b ∷ joined lines rest
 onto_joined b [] rest = refl
 onto_joined b (line ∷ lines) rest = refl
 
@@ -101,10 +102,12 @@ rest_cut (b ∷ rest) one = elim (cases_Bool (b == 10)) [
 ]
 
 -- lines and a rest are cut again as they were
-pub lines_cut-joined : (lines : List (List ℕ)) (rest : List ℕ) → AllByRecursion IsOneLine lines → IsOneLine rest → lines_cut (joined lines rest) ≡ (lines, rest)
+pub lines_cut-joined : (lines : List (List ℕ)) (rest : List ℕ) → AllByRecursion IsOneLine lines → IsOneLine rest
+    → lines_cut (joined lines rest) ≡ (lines, rest)
 lines_cut-joined [] rest are is = rest_cut rest is
 lines_cut-joined (line ∷ lines) rest are is =
-    line_cut line (joined lines rest) are.0 ∙ ap (λ (cut : List (List ℕ) × List ℕ). (line ∷ cut.0, cut.1)) (lines_cut-joined lines rest are.1 is)
+    line_cut line (joined lines rest) are.0
+    ∙ ap (λ (cut : List (List ℕ) × List ℕ). (line ∷ cut.0, cut.1)) (lines_cut-joined lines rest are.1 is)
 
 -- one more line
 pub joined-line : (lines : List (List ℕ)) (line rest : List ℕ) → joined (lines ++ line ∷ []) rest ≡ joined lines (line ++ 10 ∷ rest)
@@ -114,14 +117,16 @@ joined-line (first ∷ lines) line rest = ap (λ (t : List ℕ). first ++ 10 ∷
 -- more bytes of the rest
 pub joined-rest : (lines : List (List ℕ)) (rest more : List ℕ) → joined lines rest ++ more ≡ joined lines (rest ++ more)
 joined-rest [] rest more = refl
-joined-rest (line ∷ lines) rest more = append_assoc line (10 ∷ joined lines rest) more ∙ ap (λ (t : List ℕ). line ++ 10 ∷ t) (joined-rest lines rest more)
+joined-rest (line ∷ lines) rest more =
+    append_assoc line (10 ∷ joined lines rest) more ∙ ap (λ (t : List ℕ). line ++ 10 ∷ t) (joined-rest lines rest more)
 
 -- lines behind lines
 joined-both : (front lines : List (List ℕ)) (rest : List ℕ) → joined (front ++ lines) rest ≡ joined front (joined lines rest)
 joined-both [] lines rest = refl
 joined-both (line ∷ front) lines rest = ap (λ (t : List ℕ). line ++ 10 ∷ t) (joined-both front lines rest)
 
-both_one : (front lines : List (List ℕ)) → AllByRecursion IsOneLine front → AllByRecursion IsOneLine lines → AllByRecursion IsOneLine (front ++ lines)
+both_one : (front lines : List (List ℕ)) → AllByRecursion IsOneLine front → AllByRecursion IsOneLine lines
+    → AllByRecursion IsOneLine (front ++ lines)
 both_one [] lines are more = more
 both_one (line ∷ front) lines are more = (are.0, both_one front lines are.1 more)
 

@@ -33,7 +33,8 @@ in_row count s = record {
 
 -- LAWS
 
-pub values_back : {A : Type 0} (s : Spelling A) → IsExact s → (xs : List A) → AllByRecursion s.Form xs → values_of s.value (map s.text xs) ≡ Some xs
+pub values_back : {A : Type 0} (s : Spelling A) → IsExact s → (xs : List A) → AllByRecursion s.Form xs
+    → values_of s.value (map s.text xs) ≡ Some xs
 values_back s h [] forms = refl
 values_back s h (x ∷ xs) forms = rw (h.back x forms.0, values_back s h xs forms.1) refl
 
@@ -42,7 +43,8 @@ pub record AreRead {A : Type 0} (s : Spelling A) (texts : List (List ℕ)) (xs :
   pub forms : AllByRecursion s.Form xs
   pub are : map s.text xs ≡ texts
 
-pub values_only : {A : Type 0} (s : Spelling A) → IsExact s → (texts : List (List ℕ)) (xs : List A) → values_of s.value texts ≡ Some xs → AreRead s texts xs
+pub values_only : {A : Type 0} (s : Spelling A) → IsExact s → (texts : List (List ℕ)) (xs : List A)
+    → values_of s.value texts ≡ Some xs → AreRead s texts xs
 values_only s h [] xs e = subst (λ ys. AreRead s [] ys) (same_Some [] xs e) (record { long = refl; forms = tt; are = refl })
 values_only s h (text ∷ texts) xs e = then_only _ (s.value text) xs e (λ a first rest. map_only _ (values_of s.value texts) xs rest (λ more found same.
     let one = h.only text a first in let others = values_only s h texts more found in
@@ -88,7 +90,8 @@ listed_is_exact s at h apart = record {
       ((omega (arith, are.long, length-slice_split (λ b. b == at) text), are.forms), ap (join_with_byte at) are.are ∙ join_with_byte-slice_split at text);
 }
 
-listed_text_avoids : {A : Type 0} (s : Spelling A) (between at : ℕ) → (between == at) ≡ false → Avoids s at → (xs : List A) → AllByRecursion s.Form xs
+listed_text_avoids : {A : Type 0} (s : Spelling A) (between at : ℕ) → (between == at) ≡ false → Avoids s at
+    → (xs : List A) → AllByRecursion s.Form xs
     → has_byte at (join_with_byte between (map s.text xs)) ≡ false
 listed_text_avoids s between at other h [] forms = refl
 listed_text_avoids s between at other h (x ∷ []) forms = h x forms.0
@@ -100,7 +103,8 @@ pub listed_avoids : {A : Type 0} (s : Spelling A) (between at : ℕ) → (betwee
 listed_avoids s between at other h = λ xs form. listed_text_avoids s between at other h xs form.1
 
 -- the text of a list is as long as that of its first value
-pub listed_longer : {A : Type 0} (s : Spelling A) (at least : ℕ) → ((x : A) → s.Form x → least ≤ length (s.text x)) → (xs : List A) → (listed s at).Form xs
+pub listed_longer : {A : Type 0} (s : Spelling A) (at least : ℕ) → ((x : A) → s.Form x → least ≤ length (s.text x))
+    → (xs : List A) → (listed s at).Form xs
     → least ≤ length ((listed s at).text xs)
 listed_longer s at least h [] form = absurd (omega (arith, form.0))
 listed_longer s at least h (x ∷ []) form = h x form.1.0
@@ -113,7 +117,8 @@ pub listed_has : {A : Type 0} (s : Spelling A) (between at : ℕ) → ((x : A) �
     → has_byte at ((listed s between).text xs) ≡ true
 listed_has s between at h [] form = absurd (omega (arith, form.0))
 listed_has s between at h (x ∷ []) form = h x form.1.0
-listed_has s between at h (x ∷ y ∷ xs) form = has_byte-left at (s.text x) (between ∷ join_with_byte between (map s.text (y ∷ xs))) (h x form.1.0)
+listed_has s between at h (x ∷ y ∷ xs) form =
+    has_byte-left at (s.text x) (between ∷ join_with_byte between (map s.text (y ∷ xs))) (h x form.1.0)
 
 -- READING A LIST ONE BY ONE
 
@@ -135,7 +140,8 @@ uncut at (b ∷ text) e = elim (cases_Bool (b == at)) [
   | inr other ↦ rw other (uncut at text (unmapped _ (cut_at at text) (rw other at e)))
 ]
 
-alone : {A : Type 0} (value : Option A) → option_and_then (λ a. option_map (λ more. a ∷ more) (Some [])) value ≡ option_map (λ a. a ∷ []) value
+alone : {A : Type 0} (value : Option A)
+    → option_and_then (λ a. option_map (λ more. a ∷ more) (Some [])) value ≡ option_map (λ a. a ∷ []) value
 alone None = refl
 alone (Some a) = refl
 
@@ -157,7 +163,8 @@ pub list_more : {A : Type 0} (s : Spelling A) (at : ℕ) (values longer : List A
 list_more s at values longer rest first behind value is read pushed =
     ap (option_map (λ more. values ++ more)) (listed_more s at rest first behind (sym is)
     ∙ ap (option_and_then (λ a. option_map (λ more. a ∷ more) ((listed s at).value behind))) (sym read))
-    ∙ with_more values value ((listed s at).value behind) ∙ ap (λ xs. option_map (λ more. xs ++ more) ((listed s at).value behind)) (sym pushed)
+    ∙ with_more values value ((listed s at).value behind)
+    ∙ ap (λ xs. option_map (λ more. xs ++ more) ((listed s at).value behind)) (sym pushed)
 
 pub list_bad : {A : Type 0} (s : Spelling A) (at : ℕ) (values : List A) (rest first behind : List ℕ) → Some (first, behind) ≡ cut_at at rest
     → None ≡ s.value first
@@ -171,7 +178,8 @@ pub list_last : {A : Type 0} (s : Spelling A) (at : ℕ) (values longer : List A
     → Some value ≡ s.value rest → longer ≡ values ++ value ∷ []
     → option_map (λ more. values ++ more) ((listed s at).value rest) ≡ Some longer
 list_last s at values longer rest value is read pushed =
-    ap (option_map (λ more. values ++ more)) (listed_last s at rest (sym is) ∙ ap (option_map (λ a. a ∷ [])) (sym read)) ∙ ap Some (sym pushed)
+    ap (option_map (λ more. values ++ more)) (listed_last s at rest (sym is) ∙ ap (option_map (λ a. a ∷ [])) (sym read))
+    ∙ ap Some (sym pushed)
 
 pub list_last_bad : {A : Type 0} (s : Spelling A) (at : ℕ) (values : List A) (rest : List ℕ) → None ≡ cut_at at rest → None ≡ s.value rest
     → option_map (λ more. values ++ more) ((listed s at).value rest) ≡ None
@@ -183,7 +191,8 @@ abbrev pub others_text : {A : Type 0} → Spelling A → (at : ℕ) → List A �
 others_text s at [] = []
 others_text s at (x ∷ xs) = at ∷ (s.text x ++ others_text s at xs)
 
-pub listed_others : {A : Type 0} (s : Spelling A) (at : ℕ) (x : A) (xs : List A) → (listed s at).text (x ∷ xs) ≡ s.text x ++ others_text s at xs
+pub listed_others : {A : Type 0} (s : Spelling A) (at : ℕ) (x : A) (xs : List A)
+    → (listed s at).text (x ∷ xs) ≡ s.text x ++ others_text s at xs
 listed_others s at x [] = sym (append-nil (s.text x))
 listed_others s at x (y ∷ xs) = ap (λ (t : List ℕ). s.text x ++ at ∷ t) (listed_others s at y xs)
 
@@ -199,13 +208,15 @@ row_first text x xs (b ∷ c ∷ first) is one others = absurd (omega (arith, on
 same_heads : (a b : List ℕ) (as' bs : List (List ℕ)) → a ∷ as' ≡ b ∷ bs → (a ≡ b) × (as' ≡ bs)
 same_heads a b as' bs e = (cc, cc)
 
-row_joined : {A : Type 0} (text : A → List ℕ) (xs : List A) (bytes : List ℕ) → map text xs ≡ map (λ b. b ∷ []) bytes → flat_map text xs ≡ bytes
+row_joined : {A : Type 0} (text : A → List ℕ) (xs : List A) (bytes : List ℕ) → map text xs ≡ map (λ b. b ∷ []) bytes
+    → flat_map text xs ≡ bytes
 row_joined text [] [] e = refl
 row_joined text [] (b ∷ bytes) e = absurd (omega (arith, ap length e))
 row_joined text (x ∷ xs) [] e = absurd (omega (arith, ap length e))
 row_joined text (x ∷ xs) (b ∷ bytes) e = let parts = same_heads _ _ _ _ e in ap₂ (λ (s t : List ℕ). s ++ t) parts.0 (row_joined text xs bytes parts.1)
 
-row_only : {A : Type 0} (count : ℕ) (s : Spelling A) → IsExact s → (text : List ℕ) (xs : List A) (long : Bool) → (length text == count) ≡ long
+row_only : {A : Type 0} (count : ℕ) (s : Spelling A) → IsExact s → (text : List ℕ) (xs : List A) (long : Bool)
+    → (length text == count) ≡ long
     → (if long then values_of s.value (map (λ b. b ∷ []) text) else None) ≡ Some xs → ((length xs ≡ count) × AllByRecursion s.Form xs)
     × (flat_map s.text xs ≡ text)
 row_only count s h text xs true long e =
@@ -218,7 +229,8 @@ row_texts : {A : Type 0} (s : Spelling A) → ((x : A) → s.Form x → length (
 row_texts s one [] forms = (refl, refl)
 row_texts s one (x ∷ xs) forms = row_first s.text x xs (s.text x) refl (one x forms.0) (row_texts s one xs forms.1)
 
-pub in_row_is_exact : {A : Type 0} (count : ℕ) (s : Spelling A) → IsExact s → ((x : A) → s.Form x → length (s.text x) ≡ 1) → IsExact (in_row count s)
+pub in_row_is_exact : {A : Type 0} (count : ℕ) (s : Spelling A) → IsExact s
+    → ((x : A) → s.Form x → length (s.text x) ≡ 1) → IsExact (in_row count s)
 in_row_is_exact count s h one = record {
   back = λ xs form.
       let texts = row_texts s one xs form.1 in
@@ -227,7 +239,8 @@ in_row_is_exact count s h one = record {
   only = λ text xs e. row_only count s h text xs (length text == count) refl e;
 }
 
-row_avoids : {A : Type 0} (s : Spelling A) (at : ℕ) → Avoids s at → (xs : List A) → AllByRecursion s.Form xs → has_byte at (flat_map s.text xs) ≡ false
+row_avoids : {A : Type 0} (s : Spelling A) (at : ℕ) → Avoids s at → (xs : List A) → AllByRecursion s.Form xs
+    → has_byte at (flat_map s.text xs) ≡ false
 row_avoids s at h [] forms = refl
 row_avoids s at h (x ∷ xs) forms = has_byte-both at (s.text x) (flat_map s.text xs) (h x forms.0) (row_avoids s at h xs forms.1)
 
@@ -272,7 +285,8 @@ listed_or_mark_is_exact s at mark other h apart =
     (told_by_is_exact (or_mark (listed s at) mark) all_of none_or (or_mark_is_exact (listed s at) mark other (listed_is_exact s at h apart)) (some_back s at))
     (some_narrow s at) (some_wide s at)
 
-pub listed_or_mark_avoids : {A : Type 0} (s : Spelling A) (between : ℕ) (mark : List ℕ) (at : ℕ) → (between == at) ≡ false → has_byte at mark ≡ false
+pub listed_or_mark_avoids : {A : Type 0} (s : Spelling A) (between : ℕ) (mark : List ℕ) (at : ℕ)
+    → (between == at) ≡ false → has_byte at mark ≡ false
     → Avoids s at → Avoids (listed_or_mark s between mark) at
 listed_or_mark_avoids s between mark at other none h =
     restated_avoids (told_by (or_mark (listed s between) mark) all_of none_or) (AllByRecursion s.Form) at (some_narrow s between)

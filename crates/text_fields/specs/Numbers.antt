@@ -91,7 +91,8 @@ hex_back (suc digits) n small =
     rw (digits_behind-last 0 (hex digits (n / 16)) (hex_digit (n % 16)), hex_back digits (n / 16) high, digit_back (n % 16) low, whole) refl
 
 -- a text that isn't empty is its last byte behind the others
-last_byte : (text : List ℕ) (digits : ℕ) → length text ≡ suc digits → (front : List ℕ) × (b : ℕ) × (text ≡ front ++ b ∷ []) × (length front ≡ digits)
+last_byte : (text : List ℕ) (digits : ℕ) → length text ≡ suc digits
+    → (front : List ℕ) × (b : ℕ) × (text ≡ front ++ b ∷ []) × (length front ≡ digits)
 last_byte [] digits long = absurd (omega arith)
 last_byte (b ∷ []) digits long = ([], b, refl, omega arith)
 last_byte (b ∷ c ∷ text) zero long = absurd (omega arith)
@@ -113,7 +114,8 @@ hex_only (suc digits) n text long e =
     let two : n % 16 ≡ digit = omega (arith, same, below) in
     (omega (arith, bound, same, below, before.0), ap₂ (λ h d. hex digits h ++ hex_digit d ∷ []) one two ∙ ap₂ (λ h d. h ++ d ∷ []) before.1 below.1 ∙ sym is)))
 
-number_only : (digits n : ℕ) (text : List ℕ) (long : Bool) → (length text == digits) ≡ long → (if long then digits_behind 0 text else None) ≡ Some n
+number_only : (digits n : ℕ) (text : List ℕ) (long : Bool) → (length text == digits) ≡ long
+    → (if long then digits_behind 0 text else None) ≡ Some n
     → (n < 16 ^ digits) × (hex digits n ≡ text)
 number_only digits n text true long e = hex_only digits n text (eqb-true (length text) digits long) e
 number_only digits n text false long e = absurd (none-some n e)

@@ -26,7 +26,8 @@ Avoids {A} s at = (a : A) → s.Form a → has_byte at (s.text a) ≡ false
 
 -- LAWS
 
-pub then_only : {A B P : Type 0} (f : A → Option B) (o : Option A) (b : B) → option_and_then f o ≡ Some b → ((a : A) → o ≡ Some a → f a ≡ Some b → P) → P
+pub then_only : {A B P : Type 0} (f : A → Option B) (o : Option A) (b : B) → option_and_then f o ≡ Some b
+    → ((a : A) → o ≡ Some a → f a ≡ Some b → P) → P
 then_only f None b e go = absurd (none-some b e)
 then_only f (Some a) b e go = go a refl e
 
@@ -52,10 +53,12 @@ has_byte-append at [] rest = refl
 has_byte-append at (b ∷ front) rest = or_more (b == at) _ _ _ (has_byte-append at front rest)
 
 -- both parts of a text avoid what it avoids
-pub has_byte-both : (at : ℕ) (front rest : List ℕ) → has_byte at front ≡ false → has_byte at rest ≡ false → has_byte at (front ++ rest) ≡ false
+pub has_byte-both : (at : ℕ) (front rest : List ℕ) → has_byte at front ≡ false → has_byte at rest ≡ false
+    → has_byte at (front ++ rest) ≡ false
 has_byte-both at front rest none nor = rw (has_byte-append at front rest, none) nor
 
-pub has_byte-between : (at between : ℕ) (front rest : List ℕ) → (between == at) ≡ false → has_byte at front ≡ false → has_byte at rest ≡ false
+pub has_byte-between : (at between : ℕ) (front rest : List ℕ) → (between == at) ≡ false → has_byte at front ≡ false
+    → has_byte at rest ≡ false
     → has_byte at (front ++ between ∷ rest) ≡ false
 has_byte-between at between front rest other none nor = has_byte-both at front (between ∷ rest) none (rw other nor)
 

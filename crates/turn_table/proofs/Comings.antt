@@ -37,7 +37,8 @@ module _ {B E C : Type 0} (history : B → List E) (seat_of : E → ℕ) (base_o
   only_first v u zero at = (refl, seated-injective v u (some-injective (seated v) (seated u) at))
   only_first v u (suc j) at = absurd (mathlib.Core.Option.some-ne-none (seated u) (sym at))
 
-  pub opens : (x : B) → history x ≡ [] → base_of x ≡ base → 0 < seats → seats < 4294967296 → K (opening (0 ∷ 0 ∷ []) (Some x ∷ []) (seated (opening_seat base seats)))
+  pub opens : (x : B) → history x ≡ [] → base_of x ≡ base → 0 < seats → seats < 4294967296
+      → K (opening (0 ∷ 0 ∷ []) (Some x ∷ []) (seated (opening_seat base seats)))
   opens x hx bx some_seat few =
       let first = opening_seat {E = E} base seats in
       record {
@@ -309,12 +310,15 @@ module _ {B E C : Type 0} (history : B → List E) (seat_of : E → ℕ) (base_o
             k.slot;
       }
 
-  pub joins : (id : ℕ) (m : Standing E C) (other : ℕ) (n : Standing E C) → SeatedAnd m (λ v. v.told ≡ []) → SeatedAnd n (λ w. (w.told ≡ []) × (w.stage ≡ idle)) → Joins K id m other n (both_seats m n) spent
+  pub joins : (id : ℕ) (m : Standing E C) (other : ℕ) (n : Standing E C) → SeatedAnd m (λ v. v.told ≡ [])
+      → SeatedAnd n (λ w. (w.told ≡ []) × (w.stage ≡ idle)) → Joins K id m other n (both_seats m n) spent
   joins id spent other n h g = absurd h
   joins id (seated v) other spent h g = absurd g
   joins id (seated v) other (seated w) h g = joining id v other w h g.0 g.1
 
-  closing : (id : ℕ) (v : Known E C) (words : List ℕ) (slots : List (Option B)) → MayClose v → Final (Seen K id (seated v)) words slots → (x : B) × (get_elem? slots 0 ≡ some (Some x)) × Closes history seat_of base_of x v
+  closing : (id : ℕ) (v : Known E C) (words : List ℕ) (slots : List (Option B)) → MayClose v
+      → Final (Seen K id (seated v)) words slots
+      → (x : B) × (get_elem? slots 0 ≡ some (Some x)) × Closes history seat_of base_of x v
   closing id v words slots may (s, (k, at), same_words, same_length, homes) =
       let fv = k.fits id v at in
       let sv = fv.suits in
@@ -346,13 +350,15 @@ module _ {B E C : Type 0} (history : B → List E) (seat_of : E → ℕ) (base_o
         },
       )
     where
-      none_made : (j : ℕ) (w : Standing E C) → j ≢ id → get_elem? s.views j ≡ some w → 0 < v.says → total says_of s.views ≡ 1 → K s → At s.views id v → made_of w ≡ 0
+      none_made : (j : ℕ) (w : Standing E C) → j ≢ id → get_elem? s.views j ≡ some w → 0 < v.says
+          → total says_of s.views ≡ 1 → K s → At s.views id v → made_of w ≡ 0
       none_made j spent ne bt says_v one k at = refl
       none_made j (seated u) ne bt says_v one k at =
           let two = total_two says_of s.views id j (seated v) (seated u) (λ e. ne (sym e)) at bt in
           (k.fits j u bt).suits.unsaid (omega (arith, two, says_v, one))
 
-  pub closes : (id : ℕ) (m : Standing E C) (words : List ℕ) (slots : List (Option B)) → SeatedAnd m MayClose → Final (Seen K id m) words slots
+  pub closes : (id : ℕ) (m : Standing E C) (words : List ℕ) (slots : List (Option B)) → SeatedAnd m MayClose
+      → Final (Seen K id m) words slots
       → (x : B) × (get_elem? slots 0 ≡ some (Some x)) × SeatedAnd m (Closes history seat_of base_of x)
   closes id spent words slots h f = absurd h
   closes id (seated v) words slots h f = closing id v words slots h f

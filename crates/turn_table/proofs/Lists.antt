@@ -51,7 +51,8 @@ module _ {E : Type 0} where
     pub second : StartsWith (longer xs ys) ys
     pub whole : StartsWith log (longer xs ys)
 
-  longer_by : (log xs ys : List E) → StartsWith log xs → StartsWith log ys → (b : Bool) → nat_lt (length xs) (length ys) ≡ b → LongerIs log xs ys
+  longer_by : (log xs ys : List E) → StartsWith log xs → StartsWith log ys → (b : Bool)
+      → nat_lt (length xs) (length ys) ≡ b → LongerIs log xs ys
   longer_by log xs ys s t true e = let P : List E → Type 0 = λ l. StartsWith l xs × StartsWith l ys × StartsWith log l in
       let p : P (longer xs ys) = subst (λ b. P (cond b ys xs)) (sym e) (shorter_begins log xs ys s t (grind (arith, ltb-true, e)), starts_same ys ys refl, t) in
       record { first = p.0; second = p.1; whole = p.2 }
@@ -94,7 +95,8 @@ module _ {E : Type 0} where
     events_start n xs ys s = (events_of seat_of n s.0, ap (ev n) s.1 ∙ events_more n ys s.0)
 
     -- a history between two with the same events of a seat has them too
-    pub events_between : (n : ℕ) (log mid low mine : List E) → StartsWith log mid → StartsWith mid low → events_of seat_of n low ≡ mine → events_of seat_of n log ≡ mine → events_of seat_of n mid ≡ mine
+    pub events_between : (n : ℕ) (log mid low mine : List E) → StartsWith log mid → StartsWith mid low
+        → events_of seat_of n low ≡ mine → events_of seat_of n log ≡ mine → events_of seat_of n mid ≡ mine
     events_between n log mid low mine s t a b =
         let u = events_start n log mid s in let v = events_start n mid low t in
         sym (starts_whole (ev n log) (ev n mid) u (omega (arith, ap length a, ap length b, starts_length (ev n mid) (ev n low) v))) ∙ b
@@ -116,7 +118,8 @@ module _ {E : Type 0} where
       ended_more log added n room ended have.1 clear.2 all,
     )
 
-    pub have_append : (log : List E) (xs ys : List (ℕ × List E)) → HaveEvents seat_of log xs → HaveEvents seat_of log ys → HaveEvents seat_of log (xs ++ ys)
+    pub have_append : (log : List E) (xs ys : List (ℕ × List E)) → HaveEvents seat_of log xs → HaveEvents seat_of log ys
+        → HaveEvents seat_of log (xs ++ ys)
     have_append log [] ys h k = k
     have_append log (x ∷ xs) ys h k = (h.0, have_append log xs ys h.1 k)
 
@@ -161,12 +164,14 @@ module _ {E : Type 0} where
   among_right n [] ys h = h
   among_right n (x ∷ xs) ys h = inr (among_right n xs ys h)
 
-  pub clear_append : (number room : ℕ) (xs ys : List (ℕ × List E)) → AreClear number room xs → AreClear number room ys → AreClear number room (xs ++ ys)
+  pub clear_append : (number room : ℕ) (xs ys : List (ℕ × List E)) → AreClear number room xs → AreClear number room ys
+      → AreClear number room (xs ++ ys)
   clear_append number room [] ys h k = k
   clear_append number room (x ∷ xs) ys h k = (h.0, h.1, clear_append number room xs ys h.2 k)
 
   -- a seat that may give fewer numbers
-  pub clear_less : (number room less : ℕ) (seats : List (ℕ × List E)) → less ≤ room → AreClear number room seats → AreClear number less seats
+  pub clear_less : (number room less : ℕ) (seats : List (ℕ × List E)) → less ≤ room → AreClear number room seats
+      → AreClear number less seats
   clear_less number room less [] le h = tt
   clear_less number room less (seat ∷ seats) le h = (h.0, (λ p q. h.1 p (omega (arith, q, le))), clear_less number room less seats le h.2)
 

@@ -44,12 +44,14 @@ unfolding some_or held_or
 held_same c x y a b = ap (held_or x) (sym a ∙ b)
 
 -- a turn is passed by a seat with another ticket
-turn_over : {E : Type 0} (turns drawn : ℕ) (log log' seen : List E) (st : Stage) → FitsStage turns drawn log seen st → (HasTicket st turns → ⊥) → FitsStage (turns + 1) drawn log' seen st
+turn_over : {E : Type 0} (turns drawn : ℕ) (log log' seen : List E) (st : Stage) → FitsStage turns drawn log seen st
+    → (HasTicket st turns → ⊥) → FitsStage (turns + 1) drawn log' seen st
 turn_over turns drawn log log' seen idle f h = tt
 turn_over turns drawn log log' seen (waiting t) f h = let a = f.0 in let ne : t ≢ turns = h in (omega arith, f.1)
 turn_over turns drawn log log' seen (serving t) f h = absurd (h f.0)
 
-stage_seen : {E : Type 0} (turns drawn : ℕ) (log seen seen' : List E) (st : Stage) → FitsStage turns drawn log seen st → (seen ≡ log → seen' ≡ log) → FitsStage turns drawn log seen' st
+stage_seen : {E : Type 0} (turns drawn : ℕ) (log seen seen' : List E) (st : Stage) → FitsStage turns drawn log seen st
+    → (seen ≡ log → seen' ≡ log) → FitsStage turns drawn log seen' st
 stage_seen turns drawn log seen seen' idle f h = tt
 stage_seen turns drawn log seen seen' (waiting t) f h = f
 stage_seen turns drawn log seen seen' (serving t) f h = (f.0, f.1, h f.2)
@@ -71,14 +73,16 @@ module _ {E C : Type 0} where
       (λ e. (i, w, set_here views i (seated w) lt, move (subst (λ z. (z.seen ≡ log) ⊎ (z.told ≡ log)) (same_view views i u v (subst (λ n. At views n u) e bt) at) is)))
       (λ ne. (j, u, set_else views i j (seated w) ne ∙ bt, is))
 
-  pub away_set : {B : Type 0} (views : List (Standing E C)) (i : ℕ) (v w : Known E C) (homes : List (mathlib.Core.Option.Option (Option B))) → i < length views → At views i v
+  pub away_set : {B : Type 0} (views : List (Standing E C)) (i : ℕ) (v w : Known E C) (homes : List (mathlib.Core.Option.Option (Option B)))
+      → i < length views → At views i v
       → ((t : ℕ) → v.stage ≡ serving t → w.stage ≡ serving t) → IsAway homes views → IsAway homes (set views i (seated w))
   away_set views i v w homes lt at move (h, (j, u, t, bt, is)) = dite (ℕ_discrete j i)
       (λ e. (h, (i, w, t, set_here views i (seated w) lt, move t (subst (λ z. z.stage ≡ serving t) (same_view views i u v (subst (λ n. At views n u) e bt) at) is))))
       (λ ne. (h, (j, u, t, set_else views i j (seated w) ne ∙ bt, is)))
 
   -- a number that is known stays known where a seat keeps its number and those of the seats that it took in
-  pub known_set : (views : List (Standing E C)) (i : ℕ) (v w : Known E C) (n : ℕ) → i < length views → At views i v → w.number ≡ v.number → w.ended ≡ v.ended
+  pub known_set : (views : List (Standing E C)) (i : ℕ) (v w : Known E C) (n : ℕ) → i < length views → At views i v
+      → w.number ≡ v.number → w.ended ≡ v.ended
       → IsKnown views n → IsKnown (set views i (seated w)) n
   known_set views i v w n lt at number ended (j, u, bt, is) = dite (ℕ_discrete j i)
       (λ e. let same : u ≡ v = same_view views i u v (subst (λ n. At views n u) e bt) at in (
@@ -115,13 +119,15 @@ module _ {B E C : Type 0} (history : B → List E) (seat_of : E → ℕ) (base_o
     pub tickets : tickets_in w.stage + turns + k.drawn ≡ tickets_in v.stage + k.turns + drawn
     pub here : F turns drawn log w
     pub others : (u : Known E C) → F k.turns k.drawn k.log u → Apart v u → Apart u v → F turns drawn log u
-    pub apart : (u : Known E C) → F k.turns k.drawn k.log u → (t : ℕ) → HasTicket w.stage t → HasTicket u.stage t → (HasTicket v.stage t → ⊥) → ⊥
+    pub apart : (u : Known E C) → F k.turns k.drawn k.log u → (t : ℕ) → HasTicket w.stage t → HasTicket u.stage t
+        → (HasTicket v.stage t → ⊥) → ⊥
     pub below : AllBelow seat_of seats log
     pub known : All (λ e. IsKnown (set s.views i (seated w)) (seat_of e)) log
     pub latest : IsLatest log (set s.views i (seated w))
     pub slot : IsAtHome history seat_of base_of base seats log homes ⊎ IsAway homes (set s.views i (seated w))
 
-  total_same : (f : Standing E C → ℕ) (views : List (Standing E C)) (i : ℕ) (v w : Known E C) → At views i v → f (seated w) ≡ f (seated v) → total f (set views i (seated w)) ≡ total f views
+  total_same : (f : Standing E C → ℕ) (views : List (Standing E C)) (i : ℕ) (v w : Known E C) → At views i v
+      → f (seated w) ≡ f (seated v) → total f (set views i (seated w)) ≡ total f views
   total_same f views i v w at e = let h = total_set f views i (seated v) (seated w) at in omega arith
 
   pub moved : (s : State (Option B) (Standing E C)) (k : K s) (i : ℕ) (v w : Known E C) (words : List ℕ) (homes : List (mathlib.Core.Option.Option (Option B)))
@@ -172,17 +178,20 @@ module _ {B E C : Type 0} (history : B → List E) (seat_of : E → ℕ) (base_o
       }
 
   -- a ticket that fits lies between the turns and the draws
-  ticket_fits : (turns drawn : ℕ) (log seen : List E) (st : Stage) (t : ℕ) → FitsStage turns drawn log seen st → HasTicket st t → (turns ≤ t) × (t < drawn)
+  ticket_fits : (turns drawn : ℕ) (log seen : List E) (st : Stage) (t : ℕ) → FitsStage turns drawn log seen st
+      → HasTicket st t → (turns ≤ t) × (t < drawn)
   ticket_fits turns drawn log seen idle t f h = absurd h
   ticket_fits turns drawn log seen (waiting u) t f h = let a = f.0 in let b = f.1 in (omega arith, omega arith)
   ticket_fits turns drawn log seen (serving u) t f h = let a = f.0 in let b = f.1 in (omega arith, omega arith)
 
-  drawn_more : (turns drawn : ℕ) (log seen : List E) (st : Stage) → FitsStage turns drawn log seen st → FitsStage turns (drawn + 1) log seen st
+  drawn_more : (turns drawn : ℕ) (log seen : List E) (st : Stage) → FitsStage turns drawn log seen st
+      → FitsStage turns (drawn + 1) log seen st
   drawn_more turns drawn log seen idle f = tt
   drawn_more turns drawn log seen (waiting u) f = let a = f.0 in let b = f.1 in (a, omega arith)
   drawn_more turns drawn log seen (serving u) f = let b = f.1 in (f.0, omega arith, f.2)
 
-  suits_stage : (log : List E) (v : Known E C) (st : Stage) → Suits seat_of base seats log v → Suits seat_of base seats log (record v { stage = st })
+  suits_stage : (log : List E) (v : Known E C) (st : Stage) → Suits seat_of base seats log v
+      → Suits seat_of base seats log (record v { stage = st })
   suits_stage log v st f = assumption f
 
   -- fewer tickets are held than a word counts
@@ -199,7 +208,8 @@ module _ {B E C : Type 0} (history : B → List E) (seat_of : E → ℕ) (base_o
   same_seat : (v : Known E C) → IsSameSeat v v
   same_seat v = record { number = refl; stands = refl; says = refl; made = refl; room = refl; ended = refl }
 
-  drawing : (slots id : ℕ) (v : Known E C) (c : List (ℕ × Option B)) → v.stage ≡ idle → Allows K slots id (seated v, c) 0 (λ n. (n + 1) % M) (drew (seated v, c))
+  drawing : (slots id : ℕ) (v : Known E C) (c : List (ℕ × Option B)) → v.stage ≡ idle
+      → Allows K slots id (seated v, c) 0 (λ n. (n + 1) % M) (drew (seated v, c))
   drawing slots id v c rest s k len at fits =
       let w = draws k.drawn v in
       let lt = at_within s.views id (seated v) at in
@@ -226,12 +236,14 @@ module _ {B E C : Type 0} (history : B → List E) (seat_of : E → ℕ) (base_o
         (k.drawn, ap (λ l. get_or l 0 0) k.words, refl),
       )
 
-  pub draws_ticket : (slots id : ℕ) (m : Standing E C) (c : List (ℕ × Option B)) → SeatedAnd m (λ v. v.stage ≡ idle) → Allows K slots id (m, c) 0 (λ n. (n + 1) % M) (drew (m, c))
+  pub draws_ticket : (slots id : ℕ) (m : Standing E C) (c : List (ℕ × Option B)) → SeatedAnd m (λ v. v.stage ≡ idle)
+      → Allows K slots id (m, c) 0 (λ n. (n + 1) % M) (drew (m, c))
   draws_ticket slots id spent c h = absurd h
   draws_ticket slots id (seated v) c h = drawing slots id v c h
 
   -- a turn that isn't the seat's leaves all as it was
-  missing : (slots id : ℕ) (v : Known E C) (c : List (ℕ × Option B)) (s : State (Option B) (Standing E C)) → K s → At s.views id v → K (stepped s 1 (get_or s.words 1 0) id c (seated v) keeps)
+  missing : (slots id : ℕ) (v : Known E C) (c : List (ℕ × Option B)) (s : State (Option B) (Standing E C)) → K s
+      → At s.views id v → K (stepped s 1 (get_or s.words 1 0) id c (seated v) keeps)
   missing slots id v c s k at =
       let lt = at_within s.views id (seated v) at in
       moved s k id v v (set s.words 1 (get_or s.words 1 0)) s.homes at (record {
@@ -251,7 +263,8 @@ module _ {B E C : Type 0} (history : B → List E) (seat_of : E → ℕ) (base_o
       })
 
   -- the turn of the ticket t came, and the value is at home
-  taking : (slots id : ℕ) (v : Known E C) (c : List (ℕ × Option B)) (t : ℕ) → v.stage ≡ waiting t → (s : State (Option B) (Standing E C)) (k : K s) → At s.views id v → k.turns ≡ t
+  taking : (slots id : ℕ) (v : Known E C) (c : List (ℕ × Option B)) (t : ℕ) → v.stage ≡ waiting t
+      → (s : State (Option B) (Standing E C)) (k : K s) → At s.views id v → k.turns ≡ t
       → IsAtHome history seat_of base_of base seats k.log s.homes
       → (w : Standing E C) × (a : Act (Option B)) × Rattle.atomic_table.specs.Table.Valid s.homes c a × K (stepped s 1 (get_or s.words 1 0) id c w a) × Served history seat_of base_of (seated v, c) (w, Rattle.atomic_table.specs.Table.carried_after c a)
   taking slots id v c t waits s k at now (x, home, hx, bx) =
@@ -288,14 +301,16 @@ module _ {B E C : Type 0} (history : B → List E) (seat_of : E → ℕ) (base_o
       )
 
   -- another seat can't be served at this turn
-  not_away : (id : ℕ) (v : Known E C) (t : ℕ) → v.stage ≡ waiting t → (s : State (Option B) (Standing E C)) (k : K s) → At s.views id v → k.turns ≡ t → IsAway s.homes s.views → ⊥
+  not_away : (id : ℕ) (v : Known E C) (t : ℕ) → v.stage ≡ waiting t → (s : State (Option B) (Standing E C)) (k : K s)
+      → At s.views id v → k.turns ≡ t → IsAway s.homes s.views → ⊥
   not_away id v t waits s k at now (home, (j, u, n, bt, served)) =
       let fu : (n ≡ k.turns) × (n < k.drawn) × (u.seen ≡ k.log) = subst (FitsStage k.turns k.drawn k.log u.seen) served (k.fits j u bt).stage in
       dite (ℕ_discrete j id)
       (λ e. let same : u ≡ v = same_view s.views id u v (subst (λ m. At s.views m u) e bt) at in waiting-not-serving v.stage t n waits (sym (ap (λ z. z.stage) same) ∙ served))
       (λ ne. (k.apart id j v u (λ e. ne (sym e)) at bt).tickets t (subst (λ st. HasTicket st t) (sym waits) refl) (subst (λ st. HasTicket st t) (sym served) (fu.0 ∙ now)))
 
-  looking : (slots id : ℕ) (v : Known E C) (c : List (ℕ × Option B)) (t : ℕ) → v.stage ≡ waiting t → Allows K slots id (seated v, c) 1 (λ n. n) (looked history seat_of base_of (seated v, c))
+  looking : (slots id : ℕ) (v : Known E C) (c : List (ℕ × Option B)) (t : ℕ) → v.stage ≡ waiting t
+      → Allows K slots id (seated v, c) 1 (λ n. n) (looked history seat_of base_of (seated v, c))
   looking slots id v c t waits s k len at fits =
       let n : ℕ = get_or s.words 1 0 in
       let tk : ticket_in v.stage ≡ t = ap ticket_in waits in
@@ -310,7 +325,9 @@ module _ {B E C : Type 0} (history : B → List E) (seat_of : E → ℕ) (base_o
       (a.0, a.1, a.2, a.3, ((λ _. a.4), (λ miss. absurd (miss hit)))))
       (λ miss. (seated v, keeps, tt, missing slots id v c s k at, ((λ hit. absurd (miss hit)), (λ _. refl))))
 
-  pub looks : (slots id : ℕ) (m : Standing E C) (c : List (ℕ × Option B)) (t : ℕ) → SeatedAnd m (λ v. v.stage ≡ waiting t) → Allows K slots id (m, c) 1 (λ n. n) (looked history seat_of base_of (m, c))
+  pub looks : (slots id : ℕ) (m : Standing E C) (c : List (ℕ × Option B)) (t : ℕ)
+      → SeatedAnd m (λ v. v.stage ≡ waiting t)
+      → Allows K slots id (m, c) 1 (λ n. n) (looked history seat_of base_of (m, c))
   looks slots id spent c t h = absurd h
   looks slots id (seated v) c t h = looking slots id v c t h
 
@@ -330,7 +347,8 @@ module _ {B E C : Type 0} (history : B → List E) (seat_of : E → ℕ) (base_o
   one_home : (s : State (Option B) (Standing E C)) → K s → (h : mathlib.Core.Option.Option (Option B)) × (s.homes ≡ h ∷ [])
   one_home s k = ⊎_elim (λ x. (some (Some x.0), x.1)) (λ x. (none, x.0)) k.slot
 
-  passing : (slots id : ℕ) (v : Known E C) (c : List (ℕ × Option B)) (t : ℕ) (y : B) (added : List E) → v.stage ≡ serving t → c ≡ (0, Some y) ∷ []
+  passing : (slots id : ℕ) (v : Known E C) (c : List (ℕ × Option B)) (t : ℕ) (y : B) (added : List E)
+      → v.stage ≡ serving t → c ≡ (0, Some y) ∷ []
       → history y ≡ v.seen ++ added → AllOf seat_of v.number added → base_of y ≡ v.base
       → Allows K slots id (seated v, c) 1 (λ n. (n + 1) % M) (λ _ n. passed history (seated v, c) n)
   passing slots id v c t y added serves_now holds_it grown all based s k len at fits =
@@ -392,12 +410,14 @@ module _ {B E C : Type 0} (history : B → List E) (seat_of : E → ℕ) (base_o
             here ∙ ap after same),
       )
 
-  pub passes_turn : (slots id : ℕ) (m : Standing E C) (c : List (ℕ × Option B)) (y : B) → c ≡ (0, Some y) ∷ [] → SeatedAnd m (MayPass history seat_of base_of y)
+  pub passes_turn : (slots id : ℕ) (m : Standing E C) (c : List (ℕ × Option B)) (y : B) → c ≡ (0, Some y) ∷ []
+      → SeatedAnd m (MayPass history seat_of base_of y)
       → Allows K slots id (m, c) 1 (λ n. (n + 1) % M) (λ _ n. passed history (m, c) n)
   passes_turn slots id spent c y e h = absurd h
   passes_turn slots id (seated v) c y e h = passing slots id v c h.served.0 y h.grown.0 h.served.1 e h.grown.1 h.grown.2 h.based
 
-  catching : (slots id : ℕ) (v : Known E C) (c : List (ℕ × Option B)) → Allows K slots id (seated v, c) 1 (λ n. n) (λ _ n. caught_up seat_of (seated v, c) n)
+  catching : (slots id : ℕ) (v : Known E C) (c : List (ℕ × Option B))
+      → Allows K slots id (seated v, c) 1 (λ n. n) (λ _ n. caught_up seat_of (seated v, c) n)
   catching slots id v c s k len at fits =
       let w = catches_up v in
       let lt = at_within s.views id (seated v) at in
@@ -429,6 +449,7 @@ module _ {B E C : Type 0} (history : B → List E) (seat_of : E → ℕ) (base_o
         (refl, record { first = l.first; second = l.second; own = own; to_give = (λ n p q. events_none seat_of n k.log (longer v.seen v.told) l.whole (sv.to_give n p q)) }),
       )
 
-  pub catches : (slots id : ℕ) (m : Standing E C) (c : List (ℕ × Option B)) → SeatedAnd m (λ _. Unit {0}) → Allows K slots id (m, c) 1 (λ n. n) (λ _ n. caught_up seat_of (m, c) n)
+  pub catches : (slots id : ℕ) (m : Standing E C) (c : List (ℕ × Option B)) → SeatedAnd m (λ _. Unit {0})
+      → Allows K slots id (m, c) 1 (λ n. n) (λ _ n. caught_up seat_of (m, c) n)
   catches slots id spent c h = absurd h
   catches slots id (seated v) c h = catching slots id v c

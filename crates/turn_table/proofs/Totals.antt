@@ -29,7 +29,8 @@ module _ {V : Type 0} (f : V → ℕ) where
   total_two (x ∷ xs) (suc i) (suc j) v w ne e d = let h = total_two xs i j v w (λ p. ne (ap suc p)) e d in omega arith
 
   -- where all others have none, the total is that of one
-  pub total_only : (vs : List V) (i : ℕ) (v : V) → get_elem? vs i ≡ some v → ((j : ℕ) (w : V) → j ≢ i → get_elem? vs j ≡ some w → f w ≡ 0) → total f vs ≡ f v
+  pub total_only : (vs : List V) (i : ℕ) (v : V) → get_elem? vs i ≡ some v
+      → ((j : ℕ) (w : V) → j ≢ i → get_elem? vs j ≡ some w → f w ≡ 0) → total f vs ≡ f v
   total_only [] i v e none_else = absurd (some-ne-none v (sym e))
   total_only (x ∷ xs) zero v e none_else = let h = ap f (some-injective x v e) in let k = total_none xs (λ j w d. none_else (suc j) w (λ p. omega (arith, p)) d) in omega arith
     where
@@ -46,7 +47,8 @@ module _ {V : Type 0} (f g : V → ℕ) where
 
 module _ {V : Type 0} where
   -- one more view: an old one, or the new one at the last place
-  pub at_more : (vs : List V) (a b : V) (j : ℕ) → get_elem? (vs ++ a ∷ []) j ≡ some b → (get_elem? vs j ≡ some b) ⊎ ((j ≡ length vs) × (a ≡ b))
+  pub at_more : (vs : List V) (a b : V) (j : ℕ) → get_elem? (vs ++ a ∷ []) j ≡ some b
+      → (get_elem? vs j ≡ some b) ⊎ ((j ≡ length vs) × (a ≡ b))
   at_more [] a b zero e = inr (refl, some-injective a b e)
   at_more [] a b (suc j) e = absurd (some-ne-none b (sym e))
   at_more (x ∷ xs) a b zero e = inl e
@@ -80,7 +82,8 @@ module _ {E C : Type 0} where
   pub pairs_in : (views : List (Standing E C)) (i : ℕ) (w : Known E C) (R : Known E C → Known E C → Type 0) (Looked : ℕ → Type 0)
       → ((j : ℕ) (u : Known E C) → j ≢ i → Looked j → At views j u → R w u × R u w)
       → ((j k : ℕ) (u x : Known E C) → j ≢ k → At views j u → At views k x → R u x)
-      → (j k : ℕ) (u x : Known E C) → j ≢ k → Looked j → Looked k → At (set views i (seated w)) j u → At (set views i (seated w)) k x → R u x
+      → (j k : ℕ) (u x : Known E C) → j ≢ k → Looked j → Looked k → At (set views i (seated w)) j u
+      → At (set views i (seated w)) k x → R u x
   pairs_in views i w R Looked with_it others j k u x ne here there at bt = ⊎_elim
       (λ t. ⊎_elim
       (λ s. absurd (ne (t.0 ∙ sym s.0)))

@@ -36,11 +36,13 @@ module _ {E C : Type 0} where
     -- the seat's turn came, and it took the value
     abbrev pub Served : (B → List E) → (E → ℕ) → (B → C) → Me (Option B) (Standing E C) → Me (Option B) (Standing E C) → Type 0
     Served history seat_of base_of m n =
-        (x : B) × (n ≡ (on (serves (ticket_of m.0) (history x)) m.0, (0, Some x) ∷ m.1)) × SeatedAnd m.0 (Begins seat_of (base_of x) (history x))
+        (x : B) × (n ≡ (on (serves (ticket_of m.0) (history x)) m.0, (0, Some x) ∷ m.1))
+        × SeatedAnd m.0 (Begins seat_of (base_of x) (history x))
 
     abbrev pub looked : (B → List E) → (E → ℕ) → (B → C) → Me (Option B) (Standing E C) → ℕ → Me (Option B) (Standing E C) → Type 0
     looked history seat_of base_of m found n =
-        (found ≡ ticket_of m.0 % 18446744073709551616 → Served history seat_of base_of m n) × (found ≢ ticket_of m.0 % 18446744073709551616 → n ≡ m)
+        (found ≡ ticket_of m.0 % 18446744073709551616 → Served history seat_of base_of m n)
+        × (found ≢ ticket_of m.0 % 18446744073709551616 → n ≡ m)
 
     -- the seat gave the value back, and its turn is over
     abbrev pub passed : (B → List E) → Me (Option B) (Standing E C) → Me (Option B) (Standing E C) → Type 0

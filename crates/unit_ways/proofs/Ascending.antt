@@ -62,7 +62,8 @@ in_front p i below short =
     let small : p.base + i * p.stride < 65536 = omega (arith, whole, most, below) in
     omega (arith, small)
 
-is_behind : (p : Progression) (i : ℕ) → IsNormalRun 65536 p.base p.stride p.count → ahead_of_turn p ≤ i → i < p.count → at_step p i + 65536 ≡ p.base + i * p.stride
+is_behind : (p : Progression) (i : ℕ) → IsNormalRun 65536 p.base p.stride p.count → ahead_of_turn p ≤ i → i < p.count
+    → at_step p i + 65536 ≡ p.base + i * p.stride
 is_behind p i run far short =
     let q = (65535 - p.base) / p.stride in
     let below = run.below in
@@ -79,7 +80,8 @@ is_behind p i run far short =
 climbs : (p : Progression) (i j : ℕ) → 1 ≤ p.stride → i < j → i * p.stride < j * p.stride
 climbs p i j strides less = let more = mul-le (i + 1) p.stride j p.stride (omega (arith, less)) (omega arith) in omega (arith, more, strides)
 
-front_ascends : (p : Progression) (count : ℕ) → IsNormalRun 65536 p.base p.stride p.count → count ≤ ahead_of_turn p → Ascends p.base 65536 (map (at_step p) (range_with_len 0 count))
+front_ascends : (p : Progression) (count : ℕ) → IsNormalRun 65536 p.base p.stride p.count → count ≤ ahead_of_turn p
+    → Ascends p.base 65536 (map (at_step p) (range_with_len 0 count))
 front_ascends p count run few =
     let below = run.below in
     rising (at_step p) p.base 65536 0 count
@@ -89,7 +91,8 @@ front_ascends p count run few =
     let second = in_front p j below (omega (arith, few, short)) in
     let more = climbs p i j run.strides less in omega (arith, first, second, more))
 
-behind_ascends : (p : Progression) (k : ℕ) → IsNormalRun 65536 p.base p.stride p.count → ahead_of_turn p + k ≡ p.count → Ascends 0 p.base (map (at_step p) (range_with_len (0 + ahead_of_turn p) k))
+behind_ascends : (p : Progression) (k : ℕ) → IsNormalRun 65536 p.base p.stride p.count → ahead_of_turn p + k ≡ p.count
+    → Ascends 0 p.base (map (at_step p) (range_with_len (0 + ahead_of_turn p) k))
 behind_ascends p k run is =
     let once = run.once in
     rising (at_step p) 0 p.base (0 + ahead_of_turn p) k
@@ -102,7 +105,8 @@ behind_ascends p k run is =
     let second = is_behind p j run (omega (arith, from, less)) (omega (arith, short, is)) in
     let more = climbs p i j run.strides less in omega (arith, first, second, more))
 
-run_ascends : (p : Progression) → IsNormalRun 65536 p.base p.stride p.count → Ascends 0 65536 (turned (ahead_of_turn p) (steps 65536 p.base p.stride p.count))
+run_ascends : (p : Progression) → IsNormalRun 65536 p.base p.stride p.count
+    → Ascends 0 65536 (turned (ahead_of_turn p) (steps 65536 p.base p.stride p.count))
 unfolding steps
 run_ascends p run =
     let n = ahead_of_turn p in
@@ -137,7 +141,8 @@ addresses (to ∷ tos) a = ap (λ rest. to ∷ rest) (addresses tos a)
 pub ways_to_ascend : {A : Type 0} (set : Form) (a : A) → IsNormal 65536 set → AreAscending (ways_to set a)
 ways_to_ascend set a normal = subst (Ascends 0 65536) (sym (addresses (targets_of set) a)) (targets_ascend set normal)
 
-pub ways_of_ascend : {A : Type 0} (joined : A → A → A) (behind target : ℕ) (on jumped : Option A) → behind < 65536 → target < 65536 → AreAscending (ways_of joined behind target on jumped)
+pub ways_of_ascend : {A : Type 0} (joined : A → A → A) (behind target : ℕ) (on jumped : Option A) → behind < 65536
+    → target < 65536 → AreAscending (ways_of joined behind target on jumped)
 ways_of_ascend joined behind target None None f g = tt
 ways_of_ascend joined behind target (Some a) None f g = (omega arith, f, tt)
 ways_of_ascend joined behind target None (Some b) f g = (omega arith, g, tt)

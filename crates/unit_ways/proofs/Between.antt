@@ -25,7 +25,8 @@ pub post_in : {A : Type 0} (calls_at : ℕ → List ℕ) (frame : Frame) (all : 
 post_in calls_at frame all way h = in_map (post_of calls_at frame) all way h
 
 -- the way of a post
-pub way_of_post : {A : Type 0} (calls_at : ℕ → List ℕ) (frame : Frame) (all : List (Way A)) (to : Node) (state : A) → Contains (posts_of calls_at frame all) (to, state)
+pub way_of_post : {A : Type 0} (calls_at : ℕ → List ℕ) (frame : Frame) (all : List (Way A)) (to : Node) (state : A)
+    → Contains (posts_of calls_at frame all) (to, state)
     → (way : Way A) × Contains all way × (to ≡ At way.0 (calls_at way.0) frame) × (state ≡ way.1)
 way_of_post {A} calls_at frame all to state h =
     let (way, there, same) = from_map (post_of calls_at frame) all (to, state) h in
@@ -62,7 +63,8 @@ second_of_two {A} one other =
 same_number : (n m : ℕ) → (n == m) ≡ true → n ≡ m
 same_number n m e = grind (arith, nat_tests)
 
-pub is_way_of : {A : Type 0} (joined : A → A → A) (behind target : ℕ) (on jumped : Option A) (way : Way A) → Contains (ways_of joined behind target on jumped) way
+pub is_way_of : {A : Type 0} (joined : A → A → A) (behind target : ℕ) (on jumped : Option A) (way : Way A)
+    → Contains (ways_of joined behind target on jumped) way
     → IsWayOf joined behind target on jumped way
 is_way_of joined behind target None None way h = absurd (in_none way h)
 is_way_of {A} joined behind target (Some a) None way h = subst (IsWayOf joined behind target (Some a) None) (in_one (behind, a) way h) (goes_on refl refl)

@@ -15,7 +15,8 @@ pub turned_behind : (few i d : ℕ) (xs : List ℕ) → i < length xs - few → 
 turned_behind few i d xs short =
     get_or_append_left (drop few xs) (take few xs) d i (omega (arith, length-drop few xs, short)) ∙ get_or-drop few xs i d
 
-pub turned_front : (few i d : ℕ) (xs : List ℕ) → length xs - few ≤ i → i < length xs → get_or (turned few xs) i d ≡ get_or xs (i - (length xs - few)) d
+pub turned_front : (few i d : ℕ) (xs : List ℕ) → length xs - few ≤ i → i < length xs
+    → get_or (turned few xs) i d ≡ get_or xs (i - (length xs - few)) d
 turned_front few i d xs far short =
     get_or-append_right (drop few xs) (take few xs) (length xs - few) i d (length-drop few xs) far
     ∙ get_or-take few xs (i - (length xs - few)) d (omega (arith, far, short))
@@ -48,7 +49,8 @@ targets_turned (Run p) = refl
 pub length_targets : (set : Form) → length (targets_of set) ≡ length (members 65536 set)
 length_targets set = ap (λ (xs : List ℕ). length xs) (targets_turned set) ∙ length_turned (turn_of set) (members 65536 set)
 
-pub target_behind : (i d : ℕ) (set : Form) → i < length (members 65536 set) - turn_of set → get_or (targets_of set) i d ≡ get_or (members 65536 set) (turn_of set + i) d
+pub target_behind : (i d : ℕ) (set : Form) → i < length (members 65536 set) - turn_of set
+    → get_or (targets_of set) i d ≡ get_or (members 65536 set) (turn_of set + i) d
 target_behind i d set short = ap (λ (xs : List ℕ). get_or xs i d) (targets_turned set) ∙ turned_behind (turn_of set) i d (members 65536 set) short
 
 pub target_front : (i d : ℕ) (set : Form) → length (members 65536 set) - turn_of set ≤ i → i < length (members 65536 set)

@@ -7,7 +7,8 @@ use Rattle.unit_ways.specs.Ways.{Way}
 pub data IsWayOf {A : Type 0} (joined : A → A → A) (behind target : ℕ) (on jumped : Option A) (way : Way A) : Type 0 where
   goes_on : on ≡ Some way.1 → way.0 ≡ behind → IsWayOf joined behind target on jumped way
   jumps : jumped ≡ Some way.1 → way.0 ≡ target → IsWayOf joined behind target on jumped way
-  joins : (a b : A) → on ≡ Some a → jumped ≡ Some b → behind ≡ target → way.0 ≡ behind → way.1 ≡ joined a b → IsWayOf joined behind target on jumped way
+  joins : (a b : A) → on ≡ Some a → jumped ≡ Some b → behind ≡ target → way.0 ≡ behind → way.1 ≡ joined a b
+      → IsWayOf joined behind target on jumped way
 
 -- what is known on one of two ways stands at its address, alone or joined
 pub record StandsAt {A : Type 0} (ways : List (Way A)) (to : ℕ) (a : A) (other : Option A) (both : A → A) : Type 0 where

@@ -16,7 +16,8 @@ use Rattle.value_bits.proofs.Within.{steps_has}
 
 -- ---- few bits are unknown
 
-in_longer : (v : ℕ) (b : Tri) (xs : List ℕ) → IsBit b (v % 2) → IsIn (v / 2) xs → IsIn v (flat_map (λ n. map (λ low. 2 * n + low) (choices b)) xs)
+in_longer : (v : ℕ) (b : Tri) (xs : List ℕ) → IsBit b (v % 2) → IsIn (v / 2) xs
+    → IsIn v (flat_map (λ n. map (λ low. 2 * n + low) (choices b)) xs)
 in_longer v b [] bit h = absurd h
 in_longer v Zero (x ∷ xs) bit (inl e) = inl (omega (arith, bit, e))
 in_longer v Zero (x ∷ xs) bit (inr h) = inr (in_longer v Zero xs bit h)
@@ -85,24 +86,28 @@ lowest_within (Zero ∷ bs) h = let rest = lowest_within bs (omega (arith, h, su
 lowest_within (One ∷ bs) h = let rest = lowest_within bs (omega (arith, h, sum_by-cons (λ (b : Tri). cond (is_unknown b) 1 0) One bs)) in omega (arith, rest)
 lowest_within (Either ∷ bs) h = omega arith
 
-pub few_value : (w : ℕ) (bits : List Tri) (set : Form) → set ≡ gather (2 ^ w) (numbers bits) → unknown_count bits ≤ 4 → set ≡ from_bits w bits
+pub few_value : (w : ℕ) (bits : List Tri) (set : Form) → set ≡ gather (2 ^ w) (numbers bits) → unknown_count bits ≤ 4
+    → set ≡ from_bits w bits
 unfolding from_bits
 few_value w bits set is few = rw (le-leb (unknown_count bits) 4 few) is
 
 pub many_value : (w : ℕ) (bits : List Tri) (set : Form)
-    → set ≡ make (2 ^ w) (least bits) (2 ^ lowest_unknown bits) ((greatest bits - least bits) / 2 ^ lowest_unknown bits + 1) → 4 < unknown_count bits → set ≡ from_bits w bits
+    → set ≡ make (2 ^ w) (least bits) (2 ^ lowest_unknown bits) ((greatest bits - least bits) / 2 ^ lowest_unknown bits + 1)
+    → 4 < unknown_count bits → set ≡ from_bits w bits
 unfolding from_bits
 many_value w bits set is many = rw (lt-leb (unknown_count bits) 4 many) is
 
 -- the same, of three numbers that are those of the bits
-pub run_value : (w : ℕ) (bits : List Tri) (set : Form) (base stride end : ℕ) → base ≡ least bits → stride ≡ 2 ^ lowest_unknown bits → end ≡ greatest bits
+pub run_value : (w : ℕ) (bits : List Tri) (set : Form) (base stride end : ℕ) → base ≡ least bits
+    → stride ≡ 2 ^ lowest_unknown bits → end ≡ greatest bits
     → set ≡ make (2 ^ w) base stride ((end - base) / stride + 1) → 4 < unknown_count bits → set ≡ from_bits w bits
 run_value w bits set base stride end p q r is many = many_value w bits set
     (subst (λ (e : ℕ). set ≡ make (2 ^ w) (least bits) (2 ^ lowest_unknown bits) ((e - least bits) / 2 ^ lowest_unknown bits + 1)) r
     (subst (λ (d : ℕ). set ≡ make (2 ^ w) (least bits) d ((end - least bits) / d + 1)) q
     (subst (λ (b : ℕ). set ≡ make (2 ^ w) b stride ((end - b) / stride + 1)) p is))) many
 
-pub run_holds : (w : ℕ) (bits : List Tri) (v base stride end : ℕ) → base ≡ least bits → stride ≡ 2 ^ lowest_unknown bits → end ≡ greatest bits
+pub run_holds : (w : ℕ) (bits : List Tri) (v base stride end : ℕ) → base ≡ least bits → stride ≡ 2 ^ lowest_unknown bits
+    → end ≡ greatest bits
     → length bits ≡ w → Agrees bits v → Contains (steps (2 ^ w) base stride ((end - base) / stride + 1)) v
 run_holds w bits v base stride end p q r long h =
     subst (λ (b : ℕ). Contains (steps (2 ^ w) b stride ((end - b) / stride + 1)) v) (sym p)

@@ -13,7 +13,8 @@ use Rattle.value_bits.specs.Lefts.{IsLowest, IsOneLowest, left_answer, left_set,
 use Rattle.value_bits.proofs.Choosing.{combined_alone, one_lowest, one_top}
 use Rattle.value_bits.proofs.Decimals.{decimal_single, known_carry}
 
-pub logic_alone : (width : ℕ) (logic : Logic) (a b : Form) (x y : ℕ) → a ≡ single x → b ≡ single y → logic_set width logic a b ≡ single (logic_of logic x y)
+pub logic_alone : (width : ℕ) (logic : Logic) (a b : Form) (x y : ℕ) → a ≡ single x → b ≡ single y
+    → logic_set width logic a b ≡ single (logic_of logic x y)
 unfolding logic_set
 logic_alone width logic a b x y p q = combined_alone (2 ^ width) (λ x y z. logic_of logic x y) a b (single 0) _ x y 0 p q refl
 

@@ -45,14 +45,16 @@ not_few b n test is = elim (cases_lt 256 n) [
 ]
 
 -- of one number each it is one result
-pub combined_alone : (m : ℕ) (answer : ℕ → ℕ → ℕ → ℕ) (first second carry otherwise : Form) (x y z : ℕ) → first ≡ single x → second ≡ single y → carry ≡ single z
+pub combined_alone : (m : ℕ) (answer : ℕ → ℕ → ℕ → ℕ) (first second carry otherwise : Form) (x y z : ℕ)
+    → first ≡ single x → second ≡ single y → carry ≡ single z
     → combine_or m answer first second carry otherwise ≡ single (answer x y z)
 unfolding combine_or combine set_of put
 combined_alone m answer first second carry otherwise x y z p q r = rw (p, q, r) refl
 
 -- ---- shifts
 
-pub top_choice : (m place : ℕ) (top : Top) (x bit : ℕ) → IsTop place top x bit → (z : ℕ) × Has m (top_carry top) z × (shift_answer place top x 0 z ≡ shifted_right place x bit)
+pub top_choice : (m place : ℕ) (top : Top) (x bit : ℕ) → IsTop place top x bit
+    → (z : ℕ) × Has m (top_carry top) z × (shift_answer place top x 0 z ≡ shifted_right place x bit)
 top_choice m place Sign x bit is = (0, single_has m 0, ap (λ (b : ℕ). shifted_right place x b) (sym is))
 top_choice m place Low x bit is = (0, single_has m 0, ap (λ (b : ℕ). shifted_right place x b) (sym is))
 top_choice m place (Put given) x bit is = (bit, chosen_has m bit given is, ap (λ (b : ℕ). shifted_right place x b) (let small = bit_below given bit is in let low : bit % 2 ≡ bit = omega (arith, small) in low))
@@ -65,7 +67,8 @@ one_top place (Put Zero) x bit one is = (0, refl, ap (λ (b : ℕ). shifted_righ
 one_top place (Put One) x bit one is = (1, refl, ap (λ (b : ℕ). shifted_right place x b) (sym is))
 one_top place (Put Either) x bit one is = absurd one
 
-pub lowest_choice : (m place : ℕ) (lowest : Lowest) (x bit : ℕ) → IsLowest place lowest x bit → (z : ℕ) × Has m (lowest_carry lowest) z × (left_answer place lowest x 0 z ≡ shifted_left place x bit)
+pub lowest_choice : (m place : ℕ) (lowest : Lowest) (x bit : ℕ) → IsLowest place lowest x bit
+    → (z : ℕ) × Has m (lowest_carry lowest) z × (left_answer place lowest x 0 z ≡ shifted_left place x bit)
 lowest_choice m place High x bit is = (0, single_has m 0, ap (λ (b : ℕ). shifted_left place x b) (sym is))
 lowest_choice m place (Given given) x bit is = (bit, chosen_has m bit given is, ap (λ (b : ℕ). shifted_left place x b) (let small = bit_below given bit is in let low : bit % 2 ≡ bit = omega (arith, small) in low))
 

@@ -26,13 +26,15 @@ had_value true flag h = h
 had_value false true h = sym h
 had_value false false h = refl
 
-pub each_has_in : (wanted : Bool) (flag : ℕ → ℕ → ℕ → Bool) (xs ys zs : List ℕ) (x y z : ℕ) → each_has wanted flag xs ys zs ≡ true → IsIn x xs → IsIn y ys → IsIn z zs → flag x y z ≡ wanted
+pub each_has_in : (wanted : Bool) (flag : ℕ → ℕ → ℕ → Bool) (xs ys zs : List ℕ) (x y z : ℕ)
+    → each_has wanted flag xs ys zs ≡ true → IsIn x xs → IsIn y ys → IsIn z zs → flag x y z ≡ wanted
 each_has_in wanted flag xs ys zs x y z h i j k =
     let row = list_all_in (λ x. list_all (λ y. list_all (λ z. has_value wanted (flag x y z)) zs) ys) x xs h i in
     let line = list_all_in (λ y. list_all (λ z. has_value wanted (flag x y z)) zs) y ys row j in
     value_had wanted (flag x y z) (list_all_in (λ z. has_value wanted (flag x y z)) z zs line k)
 
-pub in_each_has : (wanted : Bool) (flag : ℕ → ℕ → ℕ → Bool) (xs ys zs : List ℕ) → ((x y z : ℕ) → IsIn x xs → IsIn y ys → IsIn z zs → flag x y z ≡ wanted) → each_has wanted flag xs ys zs ≡ true
+pub in_each_has : (wanted : Bool) (flag : ℕ → ℕ → ℕ → Bool) (xs ys zs : List ℕ)
+    → ((x y z : ℕ) → IsIn x xs → IsIn y ys → IsIn z zs → flag x y z ≡ wanted) → each_has wanted flag xs ys zs ≡ true
 in_each_has wanted flag xs ys zs each =
     all_in (λ x. list_all (λ y. list_all (λ z. has_value wanted (flag x y z)) zs) ys) xs
     (λ x i. all_in (λ y. list_all (λ z. has_value wanted (flag x y z)) zs) ys
@@ -62,16 +64,19 @@ pub agreed-few : (m : ℕ) (flag : ℕ → ℕ → ℕ → Bool) (a b c : Form) 
 unfolding agreed
 agreed-few m flag a b c few = rw (le-leb (count_of m a * (count_of m b * count_of m c)) 256 few) refl
 
-pub agreed-many : (m : ℕ) (flag : ℕ → ℕ → ℕ → Bool) (a b c : Form) → 256 < count_of m a * (count_of m b * count_of m c) → agreed m flag a b c ≡ Either
+pub agreed-many : (m : ℕ) (flag : ℕ → ℕ → ℕ → Bool) (a b c : Form) → 256 < count_of m a * (count_of m b * count_of m c)
+    → agreed m flag a b c ≡ Either
 unfolding agreed
 agreed-many m flag a b c many = rw (lt-leb (count_of m a * (count_of m b * count_of m c)) 256 many) refl
 
-flag_of : (all none flag : Bool) → (all ≡ true → flag ≡ true) → (none ≡ true → flag ≡ false) → IsFlag (cond all One (cond none Zero Either)) flag
+flag_of : (all none flag : Bool) → (all ≡ true → flag ≡ true) → (none ≡ true → flag ≡ false)
+    → IsFlag (cond all One (cond none Zero Either)) flag
 flag_of true none flag one zero = one refl
 flag_of false true flag one zero = zero refl
 flag_of false false flag one zero = tt
 
-pub agreed_is : (m : ℕ) (flag : ℕ → ℕ → ℕ → Bool) (a b c : Form) (x y z : ℕ) → Has m a x → Has m b y → Has m c z → IsFlag (agreed m flag a b c) (flag x y z)
+pub agreed_is : (m : ℕ) (flag : ℕ → ℕ → ℕ → Bool) (a b c : Form) (x y z : ℕ) → Has m a x → Has m b y → Has m c z
+    → IsFlag (agreed m flag a b c) (flag x y z)
 agreed_is m flag a b c x y z h i j =
     let xs = members m a in let ys = members m b in let zs = members m c in
     let x_in = in_from_Contains xs x h in let y_in = in_from_Contains ys y i in let z_in = in_from_Contains zs z j in
@@ -98,7 +103,8 @@ unfolding steps
 some_of m (Values xs) n = n.0
 some_of m (Run p) n = let long = n.long in omega (arith, long, length-map-range_with_len (λ (i : ℕ). (p.base + i * p.stride) % m) 0 p.count)
 
-pub agreed_clear : (m : ℕ) (flag : ℕ → ℕ → ℕ → Bool) (a b c : Form) → IsNormal m a → IsNormal m b → IsNormal m c → count_of m a * (count_of m b * count_of m c) ≤ 256
+pub agreed_clear : (m : ℕ) (flag : ℕ → ℕ → ℕ → Bool) (a b c : Form) → IsNormal m a → IsNormal m b → IsNormal m c
+    → count_of m a * (count_of m b * count_of m c) ≤ 256
     → ((x y z : ℕ) → Has m a x → Has m b y → Has m c z → flag x y z ≡ false) → agreed m flag a b c ≡ Zero
 agreed_clear m flag a b c k l n few each =
     let xs = members m a in let ys = members m b in let zs = members m c in
@@ -146,7 +152,8 @@ pub members_below : (m : ℕ) (set : Form) → IsNormal m set → All (λ n. n <
 members_below m set n = λ k d short. member_below m (get_or (members m set) k d) set (positive m set n) n (Contains-get_or (members m set) k d short)
 
 -- known where all agree, of members that are listed
-pub agreed_listed : (m : ℕ) (flag : ℕ → ℕ → ℕ → Bool) (a b c carry : Form) (xs ys zs : List ℕ) (t : Tri) → count_of m a * (count_of m b * count_of m c) ≤ 256
+pub agreed_listed : (m : ℕ) (flag : ℕ → ℕ → ℕ → Bool) (a b c carry : Form) (xs ys zs : List ℕ) (t : Tri)
+    → count_of m a * (count_of m b * count_of m c) ≤ 256
     → xs ≡ members m a → ys ≡ members m b → zs ≡ members m c → c ≡ carry → t ≡ agreed_of flag xs ys zs → t ≡ agreed m flag a b carry
 agreed_listed m flag a b c carry xs ys zs t few p q r is told =
     let same : agreed_of flag xs ys zs ≡ agreed m flag a b carry = rw (p, q, r, ← is) (sym (agreed-few m flag a b c few)) in

@@ -63,7 +63,8 @@ up_to : (d i j : ℕ) → i ≤ j → i * d ≤ j * d
 up_to d i j h = mul-le-mul_right {m = i} {n = j} d h
 
 -- it doesn't go round
-pub ends_straight : (m : ℕ) (p : Progression) → IsNormal m (Run p) → p.base + (p.count - 1) * p.stride < m → IsEnds m (Run p) p.base (p.base + (p.count - 1) * p.stride)
+pub ends_straight : (m : ℕ) (p : Progression) → IsNormal m (Run p) → p.base + (p.count - 1) * p.stride < m
+    → IsEnds m (Run p) p.base (p.base + (p.count - 1) * p.stride)
 ends_straight m p n low =
     let long = n.long in
     record {
@@ -116,7 +117,8 @@ either_of Zero f g h k is other = absurd (cc (h, is))
 either_of One f g h k is other = absurd (cc (k, other))
 either_of Either f g h k is other = refl
 
-pub agreed_mixed : (m : ℕ) (flag : ℕ → ℕ → ℕ → Bool) (a b c : Form) (x y z x' y' z' : ℕ) → Has m a x → Has m b y → Has m c z → Has m a x' → Has m b y' → Has m c z'
+pub agreed_mixed : (m : ℕ) (flag : ℕ → ℕ → ℕ → Bool) (a b c : Form) (x y z x' y' z' : ℕ) → Has m a x → Has m b y
+    → Has m c z → Has m a x' → Has m b y' → Has m c z'
     → flag x y z ≡ true → flag x' y' z' ≡ false → agreed m flag a b c ≡ Either
 agreed_mixed m flag a b c x y z x' y' z' i j k i' j' k' is other =
     either_of (agreed m flag a b c) (flag x y z) (flag x' y' z') (agreed_is m flag a b c x y z i j k) (agreed_is m flag a b c x' y' z' i' j' k') is other
@@ -130,12 +132,14 @@ zero_normal m a n = let pos = positive m a n in (omega arith, omega arith, (omeg
 pub few_too : (n k : ℕ) → n * k ≤ 256 → n * (k * 1) ≤ 256
 few_too n k h = omega (arith, h)
 
-pub order_set : (m : ℕ) (a b : Form) (low high low' high' : ℕ) → count_of m a * count_of m b ≤ 256 → IsEnds m a low high → IsEnds m b low' high'
+pub order_set : (m : ℕ) (a b : Form) (low high low' high' : ℕ) → count_of m a * count_of m b ≤ 256 → IsEnds m a low high
+    → IsEnds m b low' high'
     → high' ≤ low → One ≡ agreed m is_at_least a b (single 0)
 order_set m a b low high low' high' few ends ends' over = sym (agreed_set m is_at_least a b (single 0) (few_too (count_of m a) (count_of m b) few)
     (λ x y z h k j. let from = ends.between x h in let to = ends'.between y k in le-leb y x (omega (arith, from.0, to.1, over))))
 
-pub order_clear : (m : ℕ) (a b : Form) (low high low' high' : ℕ) → IsNormal m a → IsNormal m b → count_of m a * count_of m b ≤ 256 → IsEnds m a low high → IsEnds m b low' high'
+pub order_clear : (m : ℕ) (a b : Form) (low high low' high' : ℕ) → IsNormal m a → IsNormal m b
+    → count_of m a * count_of m b ≤ 256 → IsEnds m a low high → IsEnds m b low' high'
     → high < low' → Zero ≡ agreed m is_at_least a b (single 0)
 order_clear m a b low high low' high' n n' few ends ends' under = sym (agreed_clear m is_at_least a b (single 0) n n' (zero_normal m a n) (few_too (count_of m a) (count_of m b) few)
     (λ x y z h k j. let to = ends.between x h in let from = ends'.between y k in lt-leb y x (omega (arith, to.1, from.0, under))))

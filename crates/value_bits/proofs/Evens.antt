@@ -39,7 +39,8 @@ IsKnown Zero bit = bit ≡ 0
 IsKnown One bit = bit ≡ 1
 IsKnown Either bit = ⊥
 
-longer_remainder : (v bit : ℕ) (b : Tri) (xs : List ℕ) → IsKnown b bit → IsIn v (flat_map (λ n. map (λ low. 2 * n + low) (choices b)) xs) → v % 2 ≡ bit
+longer_remainder : (v bit : ℕ) (b : Tri) (xs : List ℕ) → IsKnown b bit
+    → IsIn v (flat_map (λ n. map (λ low. 2 * n + low) (choices b)) xs) → v % 2 ≡ bit
 longer_remainder v bit Zero xs known i =
     let outer = in_flat (λ n. map (λ low. 2 * n + low) (0 ∷ [])) v xs i in
     let inner = in_mapped (λ low. 2 * outer.0 + low) v (0 ∷ []) outer.2 in
@@ -72,7 +73,8 @@ known_some : (bits : List Tri) (bit : ℕ) → IsKnown (get_or bits 0 Either) bi
 known_some [] bit known = absurd known
 known_some (b ∷ bs) bit known = omega arith
 
-pub bits_remainder : SetLaws → (w : ℕ) (bits : List Tri) (bit : ℕ) → length bits ≡ w → IsKnown (get_or bits 0 Either) bit → HasRemainder (2 ^ w) 2 bit (from_bits w bits)
+pub bits_remainder : SetLaws → (w : ℕ) (bits : List Tri) (bit : ℕ) → length bits ≡ w
+    → IsKnown (get_or bits 0 Either) bit → HasRemainder (2 ^ w) 2 bit (from_bits w bits)
 bits_remainder laws w bits bit long known =
     let even = even_modulus w (omega (arith, long, known_some bits bit known)) in
     elim (cases_lt 4 (unknown_count bits)) [
@@ -131,7 +133,8 @@ and_zero Either = refl
 lowest_of : (f : ℕ → Tri) (w : ℕ) → 1 ≤ w → get_or (map f (range_with_len 0 w)) 0 Either ≡ f 0
 lowest_of f w wide = get_or-map-range_with_len f 0 w 0 0 Either (omega (arith, wide)) (omega arith)
 
-pub lowest_known : (w : ℕ) (set : Form) → 1 ≤ w → IsNormal (2 ^ w) set → HasRemainder (2 ^ w) 2 0 set → get_or (known_bits w set) 0 Either ≡ Zero
+pub lowest_known : (w : ℕ) (set : Form) → 1 ≤ w → IsNormal (2 ^ w) set → HasRemainder (2 ^ w) 2 0 set
+    → get_or (known_bits w set) 0 Either ≡ Zero
 lowest_known w set wide form each = lowest_of (λ place. known_bit w place set) w wide ∙ even_known w set wide form each
 
 and_even : (x y : ℕ) → y % 2 ≡ 0 → logic_of And x y % 2 ≡ 0
@@ -141,7 +144,8 @@ and_even x y even =
     let none : bit_at (logic_of And x y) 0 ≡ 0 = omega (arith, both, low) in
     omega (arith, none)
 
-pub and_even_set : SetLaws → (w : ℕ) (a b : Form) → 1 ≤ w → IsNormal (2 ^ w) a → IsNormal (2 ^ w) b → HasRemainder (2 ^ w) 2 0 b → HasRemainder (2 ^ w) 2 0 (logic_set w And a b)
+pub and_even_set : SetLaws → (w : ℕ) (a b : Form) → 1 ≤ w → IsNormal (2 ^ w) a → IsNormal (2 ^ w) b
+    → HasRemainder (2 ^ w) 2 0 b → HasRemainder (2 ^ w) 2 0 (logic_set w And a b)
 unfolding logic_set
 and_even_set laws w a b wide n k each =
     let bits = logic_bits w And a b in

@@ -38,7 +38,8 @@ numbers_more (b ∷ bs) h = ap (λ (rest : List Tri). flat_map (λ v. map (λ lo
 
 -- ---- how many they are, and how large
 
-pub length-longer : (b : Tri) (xs : List ℕ) → length (flat_map (λ v. map (λ low. 2 * v + low) (choices b)) xs) ≡ length xs * length (choices b)
+pub length-longer : (b : Tri) (xs : List ℕ)
+    → length (flat_map (λ v. map (λ low. 2 * v + low) (choices b)) xs) ≡ length xs * length (choices b)
 length-longer b [] = omega arith
 length-longer Zero (x ∷ xs) = let rest = length-longer Zero xs in omega (arith, rest)
 length-longer One (x ∷ xs) = let rest = length-longer One xs in omega (arith, rest)

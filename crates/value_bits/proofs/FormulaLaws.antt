@@ -83,10 +83,12 @@ zero_normal m pos = (omega arith, omega arith, (omega arith, pos, tt))
 abbrev pub Stays : ℕ → (ℕ → ℕ → ℕ → ℕ) → Type 0
 Stays m answer = (x y z : ℕ) → x < m → y < m → answer x y z < m
 
-pub results_below : SetLaws → (m : ℕ) (answer : ℕ → ℕ → ℕ → ℕ) (a b c : Form) → IsNormal m a → IsNormal m b → Stays m answer → HasResultsBelow m answer a b c
+pub results_below : SetLaws → (m : ℕ) (answer : ℕ → ℕ → ℕ → ℕ) (a b c : Form) → IsNormal m a → IsNormal m b
+    → Stays m answer → HasResultsBelow m answer a b c
 results_below laws m answer a b c n k stays x y z h i j = stays x y z (laws.below m x a n h) (laws.below m y b k i)
 
-choose_normal : SetLaws → (m : ℕ) (answer : ℕ → ℕ → ℕ → ℕ) (a b c otherwise : Form) → IsNormal m a → IsNormal m b → 1 ≤ length (members m c) → Stays m answer
+choose_normal : SetLaws → (m : ℕ) (answer : ℕ → ℕ → ℕ → ℕ) (a b c otherwise : Form) → IsNormal m a → IsNormal m b
+    → 1 ≤ length (members m c) → Stays m answer
     → IsNormal m otherwise → IsNormal m (combine_or m answer a b c otherwise)
 choose_normal laws m answer a b c otherwise n k some stays other = elim (cases_lt 256 (count_of m a * (count_of m b * count_of m c))) [
   | inr few ↦ subst (λ (s : Form). IsNormal m s) (combine_few m answer a b c otherwise _ refl few)
@@ -107,13 +109,15 @@ choose_has laws m answer a b c otherwise x y z n k stays h i j other = elim (cas
 pub logic_kept : (w : ℕ) (logic : Logic) → Stays (2 ^ w) (λ x y z. logic_of logic x y)
 logic_kept w logic x y z h k = logic_stays w logic x y 0 h k (pow_pos w)
 
-pub logic_normal : SetLaws → (w : ℕ) (logic : Logic) (a b : Form) → IsNormal (2 ^ w) a → IsNormal (2 ^ w) b → IsNormal (2 ^ w) (logic_set w logic a b)
+pub logic_normal : SetLaws → (w : ℕ) (logic : Logic) (a b : Form) → IsNormal (2 ^ w) a → IsNormal (2 ^ w) b
+    → IsNormal (2 ^ w) (logic_set w logic a b)
 unfolding logic_set
 logic_normal laws w logic a b n k =
     choose_normal laws (2 ^ w) (λ x y z. logic_of logic x y) a b (single 0) (from_bits w (logic_bits w logic a b)) n k (omega arith) (logic_kept w logic)
     (bits_normal laws w (logic_bits w logic a b) (logic_long w logic a b))
 
-pub logic_has : SetLaws → (w x y : ℕ) (logic : Logic) (a b : Form) → IsNormal (2 ^ w) a → IsNormal (2 ^ w) b → Has (2 ^ w) a x → Has (2 ^ w) b y
+pub logic_has : SetLaws → (w x y : ℕ) (logic : Logic) (a b : Form) → IsNormal (2 ^ w) a → IsNormal (2 ^ w) b
+    → Has (2 ^ w) a x → Has (2 ^ w) b y
     → Has (2 ^ w) (logic_set w logic a b) (logic_of logic x y)
 unfolding logic_set
 logic_has laws w x y logic a b n k h i =
@@ -123,16 +127,19 @@ logic_has laws w x y logic a b n k h i =
 
 -- ---- halves
 
-byte_below : SetLaws → (f : ℕ → ℕ) (set : Form) → ((x : ℕ) → x < 65536 → f x < 256) → IsNormal 65536 set → (v : ℕ) → Contains (map f (members 65536 set)) v → v < 256
+byte_below : SetLaws → (f : ℕ → ℕ) (set : Form) → ((x : ℕ) → x < 65536 → f x < 256) → IsNormal 65536 set → (v : ℕ)
+    → Contains (map f (members 65536 set)) v → v < 256
 byte_below laws f set below n v there =
     let found = in_mapped f v (members 65536 set) (in_from_Contains (map f (members 65536 set)) v there) in
     subst (λ (w : ℕ). w < 256) found.2 (below found.0 (laws.below 65536 found.0 set n (Contains_from_in (members 65536 set) found.0 found.1)))
 
-byte_normal : SetLaws → (f : ℕ → ℕ) (set : Form) → ((x : ℕ) → x < 65536 → f x < 256) → IsNormal 65536 set → IsNormal 256 (gather 256 (map f (members 65536 set)))
+byte_normal : SetLaws → (f : ℕ → ℕ) (set : Form) → ((x : ℕ) → x < 65536 → f x < 256) → IsNormal 65536 set
+    → IsNormal 256 (gather 256 (map f (members 65536 set)))
 byte_normal laws f set below n = laws.gather_normal 256 (map f (members 65536 set)) (omega (arith, length-map (members 65536 set) f, laws.some 65536 set n))
     (byte_below laws f set below n)
 
-byte_has : SetLaws → (f : ℕ → ℕ) (set : Form) (x : ℕ) → ((x : ℕ) → x < 65536 → f x < 256) → IsNormal 65536 set → Has 65536 set x → Has 256 (gather 256 (map f (members 65536 set))) (f x)
+byte_has : SetLaws → (f : ℕ → ℕ) (set : Form) (x : ℕ) → ((x : ℕ) → x < 65536 → f x < 256) → IsNormal 65536 set
+    → Has 65536 set x → Has 256 (gather 256 (map f (members 65536 set))) (f x)
 byte_has laws f set x below n h = laws.gather_holds 256 (f x) (map f (members 65536 set)) (byte_below laws f set below n)
     (Contains_from_in (map f (members 65536 set)) (f x) (in_map f x (members 65536 set) (in_from_Contains (members 65536 set) x h)))
 
@@ -176,7 +183,8 @@ high_has laws x set n h = elim (cases_lt 256 (length (members 65536 set))) [
 
 -- ---- words of two halves
 
-word_below : SetLaws → (lows highs : Form) → IsNormal 256 lows → IsNormal 256 highs → (v : ℕ) → Contains (words (members 256 lows) (members 256 highs)) v → v < 65536
+word_below : SetLaws → (lows highs : Form) → IsNormal 256 lows → IsNormal 256 highs → (v : ℕ)
+    → Contains (words (members 256 lows) (members 256 highs)) v → v < 65536
 word_below laws lows highs n k v there =
     let low = in_flat (λ x. map (λ y. word_of x y) (members 256 highs)) v (members 256 lows) (in_from_Contains (words (members 256 lows) (members 256 highs)) v there) in
     let high = in_mapped (λ y. word_of low.0 y) v (members 256 highs) low.2 in
@@ -184,7 +192,8 @@ word_below laws lows highs n k v there =
     let high_small = laws.below 256 high.0 highs k (Contains_from_in (members 256 highs) high.0 high.1) in
     omega (arith, low_small, high_small, high.2)
 
-pair_some : SetLaws → (lows highs : Form) → IsNormal 256 lows → IsNormal 256 highs → 1 ≤ length (words (members 256 lows) (members 256 highs))
+pair_some : SetLaws → (lows highs : Form) → IsNormal 256 lows → IsNormal 256 highs
+    → 1 ≤ length (words (members 256 lows) (members 256 highs))
 pair_some laws lows highs n k = words_some (members 256 lows) (members 256 highs) (laws.some 256 lows n) (laws.some 256 highs k)
 
 pair_long : (lows highs : Form) → length (known_bits 8 lows ++ known_bits 8 highs) ≡ 16
@@ -197,7 +206,8 @@ pair_normal laws lows highs n k = elim (cases_lt 256 (length (members 256 lows) 
   | inl many ↦ subst (λ (s : Form). IsNormal 65536 s) (pair_many lows highs _ refl many) (bits_normal laws 16 (known_bits 8 lows ++ known_bits 8 highs) (pair_long lows highs))
 ]
 
-pub pair_has : SetLaws → (x y : ℕ) (lows highs : Form) → IsNormal 256 lows → IsNormal 256 highs → Has 256 lows x → Has 256 highs y → Has 65536 (pair_set lows highs) (word_of x y)
+pub pair_has : SetLaws → (x y : ℕ) (lows highs : Form) → IsNormal 256 lows → IsNormal 256 highs → Has 256 lows x
+    → Has 256 highs y → Has 65536 (pair_set lows highs) (word_of x y)
 pair_has laws x y lows highs n k h i = elim (cases_lt 256 (length (members 256 lows) * length (members 256 highs))) [
   | inr few ↦ subst (λ (s : Form). Has 65536 s (word_of x y)) (pair_few lows highs _ refl few)
       (laws.gather_holds 65536 (word_of x y) (words (members 256 lows) (members 256 highs)) (word_below laws lows highs n k) (words_have (members 256 lows) (members 256 highs) x y h i))
@@ -210,7 +220,8 @@ pair_has laws x y lows highs n k h i = elim (cases_lt 256 (length (members 256 l
 
 -- all results of one number with a carry, or the numbers with some bits
 moved_normal : SetLaws → (w : ℕ) (answer : ℕ → ℕ → ℕ → ℕ) (set carry : Form) (bits : List Tri) → length bits ≡ w → Stays (2 ^ w) answer
-    → 1 ≤ length (members (2 ^ w) carry) → IsNormal (2 ^ w) set → IsNormal (2 ^ w) (combine_or (2 ^ w) answer set (single 0) carry (from_bits w bits))
+    → 1 ≤ length (members (2 ^ w) carry) → IsNormal (2 ^ w) set
+    → IsNormal (2 ^ w) (combine_or (2 ^ w) answer set (single 0) carry (from_bits w bits))
 moved_normal laws w answer set carry bits long stays some n =
     choose_normal laws (2 ^ w) answer set (single 0) carry (from_bits w bits) n (zero_normal (2 ^ w) (pow_pos w)) some stays (bits_normal laws w bits long)
 
@@ -227,16 +238,19 @@ exchange_kept : (half : ℕ) → Stays (2 ^ (half + half)) (λ x y z. exchanged 
 exchange_kept half x y z h k = let square : 2 ^ (half + half) ≡ 2 ^ half * 2 ^ half = pow-add 2 half half in
     subst (λ (n : ℕ). exchanged (2 ^ half) x < n) (sym square) (exchanged_below (2 ^ half) x (subst (λ (n : ℕ). x < n) square h))
 
-pub exchange_long : (half : ℕ) (set : Form) → length (drop half (known_bits (half + half) set) ++ take half (known_bits (half + half) set)) ≡ half + half
+pub exchange_long : (half : ℕ) (set : Form)
+    → length (drop half (known_bits (half + half) set) ++ take half (known_bits (half + half) set)) ≡ half + half
 exchange_long half set = let bits = known_bits (half + half) set in let long = known_long (half + half) set in
     omega (arith, long, length-append (drop half bits) (take half bits), length-drop half bits, length-take-le half bits (omega (arith, long)))
 
-pub exchange_normal : SetLaws → (half : ℕ) (set : Form) → IsNormal (2 ^ (half + half)) set → IsNormal (2 ^ (half + half)) (exchange_set half set)
+pub exchange_normal : SetLaws → (half : ℕ) (set : Form) → IsNormal (2 ^ (half + half)) set
+    → IsNormal (2 ^ (half + half)) (exchange_set half set)
 unfolding exchange_set
 exchange_normal laws half set n = moved_normal laws (half + half) (λ x y z. exchanged (2 ^ half) x) set (single 0) _
     (exchange_long half set) (exchange_kept half) (omega arith) n
 
-pub exchange_has : SetLaws → (half x : ℕ) (set : Form) → IsNormal (2 ^ (half + half)) set → Has (2 ^ (half + half)) set x → Has (2 ^ (half + half)) (exchange_set half set) (exchanged (2 ^ half) x)
+pub exchange_has : SetLaws → (half x : ℕ) (set : Form) → IsNormal (2 ^ (half + half)) set
+    → Has (2 ^ (half + half)) set x → Has (2 ^ (half + half)) (exchange_set half set) (exchanged (2 ^ half) x)
 unfolding exchange_set
 exchange_has laws half x set n h = moved_has laws (half + half) x 0 (exchanged (2 ^ half) x) (λ x y z. exchanged (2 ^ half) x) set (single 0) _
     (exchange_long half set) (exchange_kept half) n h (single_has (2 ^ (half + half)) 0) refl
@@ -274,12 +288,14 @@ pub shift_long : (place : ℕ) (set : Form) (top : Top) → length (shift_bits p
 shift_long place set top = let bits = known_bits (place + 1) set in
     omega (arith, known_long (place + 1) set, length-append (drop 1 bits) (top_bit place top bits ∷ []), length-drop 1 bits)
 
-pub shift_normal : SetLaws → (place : ℕ) (set : Form) (top : Top) → IsNormal (2 ^ (place + 1)) set → IsNormal (2 ^ (place + 1)) (shift_set place set top)
+pub shift_normal : SetLaws → (place : ℕ) (set : Form) (top : Top) → IsNormal (2 ^ (place + 1)) set
+    → IsNormal (2 ^ (place + 1)) (shift_set place set top)
 unfolding shift_set
 shift_normal laws place set top n = moved_normal laws (place + 1) (shift_answer place top) set (top_carry top) _
     (shift_long place set top) (shift_kept place top) (top_some (2 ^ (place + 1)) top) n
 
-pub shift_has : SetLaws → (place x bit : ℕ) (set : Form) (top : Top) → IsNormal (2 ^ (place + 1)) set → Has (2 ^ (place + 1)) set x → IsTop place top x bit
+pub shift_has : SetLaws → (place x bit : ℕ) (set : Form) (top : Top) → IsNormal (2 ^ (place + 1)) set
+    → Has (2 ^ (place + 1)) set x → IsTop place top x bit
     → Has (2 ^ (place + 1)) (shift_set place set top) (shifted_right place x bit)
 unfolding shift_set
 shift_has laws place x bit set top n h is =
@@ -299,12 +315,14 @@ pub left_long : (place : ℕ) (set : Form) (lowest : Lowest) → length (left_bi
 left_long place set lowest = let bits = known_bits (place + 1) set in let long = known_long (place + 1) set in
     omega (arith, length-take-le place bits (omega (arith, long)))
 
-pub left_normal : SetLaws → (place : ℕ) (set : Form) (lowest : Lowest) → IsNormal (2 ^ (place + 1)) set → IsNormal (2 ^ (place + 1)) (left_set place set lowest)
+pub left_normal : SetLaws → (place : ℕ) (set : Form) (lowest : Lowest) → IsNormal (2 ^ (place + 1)) set
+    → IsNormal (2 ^ (place + 1)) (left_set place set lowest)
 unfolding left_set
 left_normal laws place set lowest n = moved_normal laws (place + 1) (left_answer place lowest) set (lowest_carry lowest) _
     (left_long place set lowest) (left_kept place lowest) (lowest_some (2 ^ (place + 1)) lowest) n
 
-pub left_has : SetLaws → (place x bit : ℕ) (set : Form) (lowest : Lowest) → IsNormal (2 ^ (place + 1)) set → Has (2 ^ (place + 1)) set x → IsLowest place lowest x bit
+pub left_has : SetLaws → (place x bit : ℕ) (set : Form) (lowest : Lowest) → IsNormal (2 ^ (place + 1)) set
+    → Has (2 ^ (place + 1)) set x → IsLowest place lowest x bit
     → Has (2 ^ (place + 1)) (left_set place set lowest) (shifted_left place x bit)
 unfolding left_set
 left_has laws place x bit set lowest n h is =
@@ -325,7 +343,8 @@ sixteen_positive digits = let below = digits_below digits 0 in omega (arith, bel
 decimal_kept : (digits : ℕ) → Stays (16 ^ digits) (decimal_sum digits)
 decimal_kept digits x y z h k = digits_below digits (decimal_total digits x y z)
 
-pub decimal_add_normal : SetLaws → (digits : ℕ) (a b : Form) (carry : Tri) → IsNormal (16 ^ digits) a → IsNormal (16 ^ digits) b → IsNormal (16 ^ digits) (decimal_add_set digits a b carry)
+pub decimal_add_normal : SetLaws → (digits : ℕ) (a b : Form) (carry : Tri) → IsNormal (16 ^ digits) a
+    → IsNormal (16 ^ digits) b → IsNormal (16 ^ digits) (decimal_add_set digits a b carry)
 unfolding decimal_add_set
 decimal_add_normal laws digits a b carry n k = let m = 16 ^ digits in let pos = sixteen_positive digits in
     either_way (λ s. IsNormal m s) (are_decimal digits a && are_decimal digits b) (combine_or m (decimal_sum digits) a b (chosen carry) (any m)) (any m)
@@ -333,7 +352,8 @@ decimal_add_normal laws digits a b carry n k = let m = 16 ^ digits in let pos = 
     (λ _. laws.whole_normal m pos)
 
 pub decimal_add_has : SetLaws → (digits x y bit : ℕ) (a b : Form) (carry : Tri) → IsNormal (16 ^ digits) a → IsNormal (16 ^ digits) b
-    → Has (16 ^ digits) a x → Has (16 ^ digits) b y → IsBit carry bit → Has (16 ^ digits) (decimal_add_set digits a b carry) (decimal_sum digits x y bit)
+    → Has (16 ^ digits) a x → Has (16 ^ digits) b y → IsBit carry bit
+    → Has (16 ^ digits) (decimal_add_set digits a b carry) (decimal_sum digits x y bit)
 unfolding decimal_add_set
 decimal_add_has laws digits x y bit a b carry n k h i is = let m = 16 ^ digits in let pos = sixteen_positive digits in
     let all = laws.whole m (decimal_sum digits x y bit) (digits_below digits (decimal_total digits x y bit)) in

@@ -35,28 +35,34 @@ pub pair_one : (x y : ℕ) → pair_set (single x) (single y) ≡ single (word_o
 unfolding pair_set set_of put
 pair_one x y = refl
 
-pub low_few : (set result : Form) → result ≡ gather 256 (map low_byte (members 65536 set)) → length (members 65536 set) ≤ 256 → result ≡ low_set set
+pub low_few : (set result : Form) → result ≡ gather 256 (map low_byte (members 65536 set))
+    → length (members 65536 set) ≤ 256 → result ≡ low_set set
 unfolding low_set
 low_few set result is few = rw (le-leb (length (members 65536 set)) 256 few) is
 
-pub low_many : (set result : Form) → result ≡ from_bits 8 (take 8 (known_bits 16 set)) → 256 < length (members 65536 set) → result ≡ low_set set
+pub low_many : (set result : Form) → result ≡ from_bits 8 (take 8 (known_bits 16 set))
+    → 256 < length (members 65536 set) → result ≡ low_set set
 unfolding low_set
 low_many set result is many = rw (lt-leb (length (members 65536 set)) 256 many) is
 
-pub high_few : (set result : Form) → result ≡ gather 256 (map high_byte (members 65536 set)) → length (members 65536 set) ≤ 256 → result ≡ high_set set
+pub high_few : (set result : Form) → result ≡ gather 256 (map high_byte (members 65536 set))
+    → length (members 65536 set) ≤ 256 → result ≡ high_set set
 unfolding high_set
 high_few set result is few = rw (le-leb (length (members 65536 set)) 256 few) is
 
-pub high_many : (set result : Form) → result ≡ from_bits 8 (drop 8 (known_bits 16 set)) → 256 < length (members 65536 set) → result ≡ high_set set
+pub high_many : (set result : Form) → result ≡ from_bits 8 (drop 8 (known_bits 16 set))
+    → 256 < length (members 65536 set) → result ≡ high_set set
 unfolding high_set
 high_many set result is many = rw (lt-leb (length (members 65536 set)) 256 many) is
 
-pub pair_few : (low high result : Form) → result ≡ gather 65536 (words (members 256 low) (members 256 high)) → length (members 256 low) * length (members 256 high) ≤ 256
+pub pair_few : (low high result : Form) → result ≡ gather 65536 (words (members 256 low) (members 256 high))
+    → length (members 256 low) * length (members 256 high) ≤ 256
     → result ≡ pair_set low high
 unfolding pair_set
 pair_few low high result is few = rw (le-leb (length (members 256 low) * length (members 256 high)) 256 few) is
 
-pub pair_many : (low high result : Form) → result ≡ from_bits 16 (known_bits 8 low ++ known_bits 8 high) → 256 < length (members 256 low) * length (members 256 high)
+pub pair_many : (low high result : Form) → result ≡ from_bits 16 (known_bits 8 low ++ known_bits 8 high)
+    → 256 < length (members 256 low) * length (members 256 high)
     → result ≡ pair_set low high
 unfolding pair_set
 pair_many low high result is many = rw (lt-leb (length (members 256 low) * length (members 256 high)) 256 many) is
@@ -78,7 +84,8 @@ words_have lows highs x y h k =
     (in_flat_map (λ n. map (λ m. word_of n m) highs) x (word_of x y) lows (in_from_Contains lows x h)
     (in_map (λ m. word_of x m) y highs (in_from_Contains highs y k)))
 
-pub words_room : (lows highs : List ℕ) (i : ℕ) → i < length lows → length lows * length highs ≤ 256 → length (words (take i lows) highs) + length highs ≤ 256
+pub words_room : (lows highs : List ℕ) (i : ℕ) → i < length lows → length lows * length highs ≤ 256
+    → length (words (take i lows) highs) + length highs ≤ 256
 words_room lows highs i short few =
     let taken = length-take-le i lows (omega arith) in
     let long = length-words (take i lows) highs in

@@ -32,7 +32,8 @@ agrees_from f v (suc n) s each below =
           (agrees_from f v n (s + 1) (λ i low high. each i (omega arith) (omega arith)) (omega (arith, half, power, below))),
     )
 
-pub agrees_by_places : (f : ℕ → Tri) (v w : ℕ) → ((i : ℕ) → i < w → IsBit (f i) (bit_at v i)) → v < 2 ^ w → Agrees (map f (range_with_len 0 w)) v
+pub agrees_by_places : (f : ℕ → Tri) (v w : ℕ) → ((i : ℕ) → i < w → IsBit (f i) (bit_at v i)) → v < 2 ^ w
+    → Agrees (map f (range_with_len 0 w)) v
 agrees_by_places f v w each below =
     let whole : v / 2 ^ 0 ≡ v = omega arith in
     subst (λ (x : ℕ). Agrees (map f (range_with_len 0 w)) x) whole
@@ -64,7 +65,8 @@ bit_at-mod n w place within =
     sym (bit_at-add (n % 2 ^ w) (n / 2 ^ w * 2 ^ (w - (place + 1))) place) ∙ ap (λ (k : ℕ). bit_at k place) (sym parts)
 
 -- numbers in steps of a multiple of twice the place's power
-low_bit : (w place base stride i : ℕ) → place < w → stride % 2 ^ (place + 1) ≡ 0 → bit_at ((base + i * stride) % 2 ^ w) place ≡ bit_at base place
+low_bit : (w place base stride i : ℕ) → place < w → stride % 2 ^ (place + 1) ≡ 0
+    → bit_at ((base + i * stride) % 2 ^ w) place ≡ bit_at base place
 low_bit w place base stride i within none =
     let q = stride / 2 ^ (place + 1) in
     let whole : stride ≡ q * 2 ^ (place + 1) = omega (arith, none) in
@@ -75,7 +77,8 @@ quotient_grows : (a b k : ℕ) → 0 < k → a ≤ b → a / k ≤ b / k
 quotient_grows a b k pos h = le-div (a / k) b k pos (let part = div-mul-le_self a k in omega (arith, part, h))
 
 -- numbers between two that agree from the place on
-high_bit : (w place base stride count i : ℕ) → base + (count - 1) * stride < 2 ^ w → base / 2 ^ place ≡ (base + (count - 1) * stride) / 2 ^ place → i < count
+high_bit : (w place base stride count i : ℕ) → base + (count - 1) * stride < 2 ^ w
+    → base / 2 ^ place ≡ (base + (count - 1) * stride) / 2 ^ place → i < count
     → bit_at ((base + i * stride) % 2 ^ w) place ≡ bit_at base place
 high_bit w place base stride count i once same short =
     let less : i * stride ≤ (count - 1) * stride = grind arith in

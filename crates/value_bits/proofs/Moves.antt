@@ -44,7 +44,8 @@ agrees_repeat (suc n) b bit h =
 
 -- ---- shifts
 
-top_agrees : (place : ℕ) (top : Top) (bits : List Tri) (x bit : ℕ) → Agrees bits x → IsTop place top x bit → IsBit (top_bit place top bits) bit
+top_agrees : (place : ℕ) (top : Top) (bits : List Tri) (x bit : ℕ) → Agrees bits x → IsTop place top x bit
+    → IsBit (top_bit place top bits) bit
 top_agrees place Sign bits x bit h is = subst (λ (n : ℕ). IsBit (get_or bits place Either) n) (sym is) (bits_at bits place x h)
 top_agrees place Low bits x bit h is = subst (λ (n : ℕ). IsBit (get_or bits 0 Either) n) (sym is) (bits_at bits 0 x h)
 top_agrees place (Put given) bits x bit h is = is
@@ -57,11 +58,13 @@ shift_agrees place top bits x bit long h is =
     let size : length (drop 1 bits) ≡ place = omega (arith, length-drop 1 bits) in
     subst (λ (n : ℕ). Agrees (shift_bits place top bits) (x / 2 + bit * 2 ^ n)) size (agrees_append (drop 1 bits) (top_bit place top bits ∷ []) (x / 2) bit rest last)
 
-lowest_agrees : (place : ℕ) (lowest : Lowest) (bits : List Tri) (x bit : ℕ) → Agrees bits x → IsLowest place lowest x bit → IsBit (lowest_bit place lowest bits) bit
+lowest_agrees : (place : ℕ) (lowest : Lowest) (bits : List Tri) (x bit : ℕ) → Agrees bits x
+    → IsLowest place lowest x bit → IsBit (lowest_bit place lowest bits) bit
 lowest_agrees place High bits x bit h is = subst (λ (n : ℕ). IsBit (get_or bits place Either) n) (sym is) (bits_at bits place x h)
 lowest_agrees place (Given given) bits x bit h is = is
 
-pub left_agrees : (place : ℕ) (lowest : Lowest) (bits : List Tri) (x bit : ℕ) → length bits ≡ place + 1 → Agrees bits x → IsLowest place lowest x bit
+pub left_agrees : (place : ℕ) (lowest : Lowest) (bits : List Tri) (x bit : ℕ) → length bits ≡ place + 1 → Agrees bits x
+    → IsLowest place lowest x bit
     → Agrees (left_bits place lowest bits) (shifted_left place x bit)
 left_agrees place lowest bits x bit long h is =
     let first = lowest_agrees place lowest bits x bit h is in
@@ -74,7 +77,8 @@ left_agrees place lowest bits x bit long h is =
 
 -- ---- halves
 
-pub exchange_agrees : (half : ℕ) (bits : List Tri) (x : ℕ) → length bits ≡ half + half → Agrees bits x → Agrees (drop half bits ++ take half bits) (exchanged (2 ^ half) x)
+pub exchange_agrees : (half : ℕ) (bits : List Tri) (x : ℕ) → length bits ≡ half + half → Agrees bits x
+    → Agrees (drop half bits ++ take half bits) (exchanged (2 ^ half) x)
 exchange_agrees half bits x long h =
     let low = agrees_take half bits x h in
     let high = bits_drop half bits x h in
@@ -82,7 +86,8 @@ exchange_agrees half bits x long h =
     let turned : x / 2 ^ half + x % 2 ^ half * 2 ^ length (drop half bits) ≡ exchanged (2 ^ half) x = omega (arith, ap (λ (n : ℕ). x % 2 ^ half * 2 ^ n) size) in
     subst (λ (n : ℕ). Agrees (drop half bits ++ take half bits) n) turned (agrees_append (drop half bits) (take half bits) (x / 2 ^ half) (x % 2 ^ half) high low)
 
-pub sign_agrees : (bits : List Tri) (x : ℕ) → length bits ≡ 16 → Agrees bits x → Agrees (take 8 bits ++ replicate 8 (get_or bits 7 Either)) (sign_extended x)
+pub sign_agrees : (bits : List Tri) (x : ℕ) → length bits ≡ 16 → Agrees bits x
+    → Agrees (take 8 bits ++ replicate 8 (get_or bits 7 Either)) (sign_extended x)
 sign_agrees bits x long h =
     let low = agrees_take 8 bits x h in
     let high = agrees_repeat 8 (get_or bits 7 Either) (bit_at x 7) (bits_at bits 7 x h) in
@@ -96,6 +101,7 @@ low_agrees bits x long h = agrees_take 8 bits x h
 pub high_agrees : (bits : List Tri) (x : ℕ) → length bits ≡ 16 → Agrees bits x → Agrees (drop 8 bits) (high_byte x)
 high_agrees bits x long h = bits_drop 8 bits x h
 
-pub pair_agrees : (lows highs : List Tri) (x y : ℕ) → length lows ≡ 8 → Agrees lows x → Agrees highs y → Agrees (lows ++ highs) (word_of x y)
+pub pair_agrees : (lows highs : List Tri) (x y : ℕ) → length lows ≡ 8 → Agrees lows x → Agrees highs y
+    → Agrees (lows ++ highs) (word_of x y)
 pair_agrees lows highs x y long h k =
     subst (λ (n : ℕ). Agrees (lows ++ highs) (x + y * 2 ^ n)) long (agrees_append lows highs x y h k)

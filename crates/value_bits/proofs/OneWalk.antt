@@ -26,7 +26,8 @@ walk_more p xs i d b before step after short held here is =
     is ∙ ap (λ (c : Bool). c && step) held ∙ ap (λ (c : Bool). (b && list_all p (take i xs)) && c) here
     ∙ and_assoc b (list_all p (take i xs)) (p (get_or xs i d)) ∙ ap (λ (c : Bool). b && c) (sym (list_all_more p xs i d short))
 
-pub walk_end : (p : ℕ → Bool) (xs : List ℕ) (i : ℕ) (b held : Bool) → length xs ≤ i → held ≡ (b && list_all p (take i xs)) → held ≡ (b && list_all p xs)
+pub walk_end : (p : ℕ → Bool) (xs : List ℕ) (i : ℕ) (b held : Bool) → length xs ≤ i
+    → held ≡ (b && list_all p (take i xs)) → held ≡ (b && list_all p xs)
 walk_end p xs i b held long is = is ∙ ap (λ (ys : List ℕ). b && list_all p ys) (take_all i xs long)
 
 all_of_taken : (p : ℕ → Bool) (xs : List ℕ) (i : ℕ) → list_all p xs ≡ true → list_all p (take i xs) ≡ true
@@ -46,7 +47,8 @@ none_left p xs i true is = elim (cases_Bool (list_all p xs)) [
 ]
 
 -- where none is left, none is left behind the others
-pub walk_stops : (p : ℕ → Bool) (xs : List ℕ) (i : ℕ) (b held : Bool) → held ≡ (b && list_all p (take i xs)) → held ≡ false → held ≡ (b && list_all p xs)
+pub walk_stops : (p : ℕ → Bool) (xs : List ℕ) (i : ℕ) (b held : Bool) → held ≡ (b && list_all p (take i xs))
+    → held ≡ false → held ≡ (b && list_all p xs)
 walk_stops p xs i b held is none = none ∙ none_left p xs i b (sym none ∙ is)
 
 first_of : (xs : List ℕ) → 1 ≤ length xs → IsIn (get_or xs 0 0) xs
@@ -75,7 +77,8 @@ by_value flag xs ys zs false all set clear is =
 
 -- what is told of a flag that has the value of the first combination for all
 pub told_of : (flag : ℕ → ℕ → ℕ → Bool) (xs ys zs : List ℕ) (wanted all : Bool) → 1 ≤ length xs → 1 ≤ length ys → 1 ≤ length zs
-    → wanted ≡ flag (get_or xs 0 0) (get_or ys 0 0) (get_or zs 0 0) → all ≡ each_has wanted flag xs ys zs → known_where all wanted ≡ agreed_of flag xs ys zs
+    → wanted ≡ flag (get_or xs 0 0) (get_or ys 0 0) (get_or zs 0 0) → all ≡ each_has wanted flag xs ys zs
+    → known_where all wanted ≡ agreed_of flag xs ys zs
 told_of flag xs ys zs wanted all i j k is held =
     let here : (value : Bool) → each_has value flag xs ys zs ≡ true → wanted ≡ value =
     λ value each. is ∙ each_has_in value flag xs ys zs (get_or xs 0 0) (get_or ys 0 0) (get_or zs 0 0) each (first_of xs i) (first_of ys j) (first_of zs k) in
@@ -100,5 +103,6 @@ kept_each place flag xs ys zs wanted kept is =
     is ∙ ap (λ (b : Bool). b && list_all (λ z. list_all (λ x. list_all
     (λ y. has_value wanted (flag x y z)) ys) xs) zs) (held_each place) ∙ carries_first wanted flag xs ys zs
 
-pub listed_all : (m : ℕ) (set : Form) (items : List ℕ) → IsNormal m set → items ≡ members m set → (1 ≤ length items) × All (λ n. n < m) items
+pub listed_all : (m : ℕ) (set : Form) (items : List ℕ) → IsNormal m set → items ≡ members m set
+    → (1 ≤ length items) × All (λ n. n < m) items
 listed_all m set items n is = subst (λ (ys : List ℕ). (1 ≤ length ys) × All (λ n. n < m) ys) (sym is) (some_of m set n, members_below m set n)

@@ -95,12 +95,14 @@ same_of v x y (inl i) (inl j) = sym i ∙ j
 same_of v x y (inr i) j = absurd i
 same_of v x y (inl i) (inr j) = absurd j
 
-pub equal_clear : (m : ℕ) (xs ys : List ℕ) → IsNormal m (Values xs) → IsNormal m (Values ys) → (Share xs ys → ⊥) → Zero ≡ agreed m is_equal (Values xs) (Values ys) (single 0)
+pub equal_clear : (m : ℕ) (xs ys : List ℕ) → IsNormal m (Values xs) → IsNormal m (Values ys) → (Share xs ys → ⊥)
+    → Zero ≡ agreed m is_equal (Values xs) (Values ys) (single 0)
 equal_clear m xs ys n k none = sym (agreed_clear m is_equal (Values xs) (Values ys) (single 0) n k (zero_normal m (Values xs) n)
     (few_too (length xs) (length ys) (list_product m xs ys n k))
     (λ x y z h i j. ne_eqb x y (λ is. none (x, h, subst (λ (v : ℕ). Contains ys v) (sym is) i))))
 
-pub equal_set : (m : ℕ) (xs ys : List ℕ) → length xs ≡ 1 → length ys ≡ 1 → Share xs ys → One ≡ agreed m is_equal (Values xs) (Values ys) (single 0)
+pub equal_set : (m : ℕ) (xs ys : List ℕ) → length xs ≡ 1 → length ys ≡ 1 → Share xs ys
+    → One ≡ agreed m is_equal (Values xs) (Values ys) (single 0)
 equal_set m xs ys one one' h =
     let first = one_of_one h.0 xs one (in_from_Contains xs h.0 h.1) in
     let second = one_of_one h.0 ys one' (in_from_Contains ys h.0 h.2) in

@@ -97,9 +97,11 @@ next v place = ap (λ (n : ℕ). n % 2) (halved v place)
 pub bits_at : (bits : List Tri) (place v : ℕ) → Agrees bits v → IsBit (slice_index_or bits place Either) (bit_at v place)
 bits_at [] place v agrees = bit_at-lt v place
 bits_at (t ∷ bits) zero v agrees = subst (IsBit t) (sym (lowest v)) agrees.0
-bits_at (t ∷ bits) (suc place) v agrees = subst (IsBit (slice_index_or bits place Either)) (next v place) (bits_at bits place (v / 2) agrees.1)
+bits_at (t ∷ bits) (suc place) v agrees =
+    subst (IsBit (slice_index_or bits place Either)) (next v place) (bits_at bits place (v / 2) agrees.1)
 
-pub bits_put : (bits : List Tri) (place v : ℕ) (t : Tri) → place < length bits → Agrees bits v → IsBit t (bit_at v place) → Agrees (set bits place t) v
+pub bits_put : (bits : List Tri) (place v : ℕ) (t : Tri) → place < length bits → Agrees bits v
+    → IsBit t (bit_at v place) → Agrees (set bits place t) v
 bits_put [] place v t inside agrees is = absurd (omega (arith, inside))
 bits_put (held ∷ bits) zero v t inside agrees is = (subst (IsBit t) (lowest v) is, agrees.1)
 bits_put (held ∷ bits) (suc place) v t inside agrees is =
@@ -124,7 +126,8 @@ bits_append (t ∷ bits) more v w h k =
     let high : v / 2 + 2 ^ length bits * w ≡ (v + 2 ^ suc (length bits) * w) / 2 = omega (arith, double) in
     (subst (IsBit t) low h.0, subst (Agrees (bits ++ more)) high (bits_append bits more (v / 2) w h.1 k))
 
-pub bits_take : (width : ℕ) (bits : List Tri) (v low high : ℕ) → v ≡ low + 2 ^ width * high → low < 2 ^ width → Agrees bits v → Agrees (take width bits) low
+pub bits_take : (width : ℕ) (bits : List Tri) (v low high : ℕ) → v ≡ low + 2 ^ width * high → low < 2 ^ width
+    → Agrees bits v → Agrees (take width bits) low
 bits_take zero bits v low high is small h = omega (arith, small)
 bits_take (suc width) [] v low high is small h = omega (arith, is, h)
 bits_take (suc width) (t ∷ bits) v low high is small h =

@@ -41,7 +41,8 @@ may_be Either flag = true
 -- The numbers of a run have the bit of its base below the lowest one bit of its stride. Where the run doesn't go round
 -- they have it also above the highest bit in which its first and its last number differ.
 abbrev pub is_fixed : (width place : ℕ) → Progression → Bool
-is_fixed width place p = (p.stride % 2 ^ (place + 1) == 0) || (nat_lt (last_of p) (2 ^ width) && (p.base / 2 ^ place == last_of p / 2 ^ place))
+is_fixed width place p =
+    (p.stride % 2 ^ (place + 1) == 0) || (nat_lt (last_of p) (2 ^ width) && (p.base / 2 ^ place == last_of p / 2 ^ place))
 
 -- the bit at a place: that of a list is known where all its numbers agree
 unfoldable pub known_bit : (width place : ℕ) → Form → Tri

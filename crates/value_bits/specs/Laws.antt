@@ -23,7 +23,8 @@ pub record BitLaws : Type 0 where
   -- AND, OR and XOR
   pub logic_normal : (width : ℕ) (logic : Logic) (a b : Form) → IsNormal (2 ^ width) a → IsNormal (2 ^ width) b
       → IsNormal (2 ^ width) (logic_set width logic a b)
-  pub logic : (width x y : ℕ) (logic : Logic) (a b : Form) → IsNormal (2 ^ width) a → IsNormal (2 ^ width) b → Has (2 ^ width) a x → Has (2 ^ width) b y
+  pub logic : (width x y : ℕ) (logic : Logic) (a b : Form) → IsNormal (2 ^ width) a → IsNormal (2 ^ width) b
+      → Has (2 ^ width) a x → Has (2 ^ width) b y
       → Has (2 ^ width) (logic_set width logic a b) (logic_of logic x y)
   -- the low and the high bytes of words, and words of bytes
   pub low_normal : (a : Form) → IsNormal 65536 a → IsNormal 256 (low_set a)
@@ -31,7 +32,8 @@ pub record BitLaws : Type 0 where
   pub high_normal : (a : Form) → IsNormal 65536 a → IsNormal 256 (high_set a)
   pub high : (v : ℕ) (a : Form) → IsNormal 65536 a → Has 65536 a v → Has 256 (high_set a) (high_byte v)
   pub pair_normal : (low high : Form) → IsNormal 256 low → IsNormal 256 high → IsNormal 65536 (pair_set low high)
-  pub pair : (x y : ℕ) (low high : Form) → IsNormal 256 low → IsNormal 256 high → Has 256 low x → Has 256 high y → Has 65536 (pair_set low high) (word_of x y)
+  pub pair : (x y : ℕ) (low high : Form) → IsNormal 256 low → IsNormal 256 high → Has 256 low x → Has 256 high y
+      → Has 65536 (pair_set low high) (word_of x y)
   pub pair_byte : (low : Form) (v : ℕ) → IsNormal 256 low → Has 65536 (pair_set low (single 0)) v → v < 256
   -- moved bits
   pub exchange_normal : (half : ℕ) (a : Form) → IsNormal (2 ^ (half + half)) a → IsNormal (2 ^ (half + half)) (exchange_set half a)
@@ -42,14 +44,17 @@ pub record BitLaws : Type 0 where
   pub shift_normal : (place : ℕ) (a : Form) (top : Top) → IsNormal (2 ^ (place + 1)) a → IsNormal (2 ^ (place + 1)) (shift_set place a top)
   pub shift : (place x bit : ℕ) (a : Form) (top : Top) → IsNormal (2 ^ (place + 1)) a → Has (2 ^ (place + 1)) a x → IsTop place top x bit
       → Has (2 ^ (place + 1)) (shift_set place a top) (shifted_right place x bit)
-  pub left_normal : (place : ℕ) (a : Form) (lowest : Lowest) → IsNormal (2 ^ (place + 1)) a → IsNormal (2 ^ (place + 1)) (left_set place a lowest)
-  pub left : (place x bit : ℕ) (a : Form) (lowest : Lowest) → IsNormal (2 ^ (place + 1)) a → Has (2 ^ (place + 1)) a x → IsLowest place lowest x bit
+  pub left_normal : (place : ℕ) (a : Form) (lowest : Lowest) → IsNormal (2 ^ (place + 1)) a
+      → IsNormal (2 ^ (place + 1)) (left_set place a lowest)
+  pub left : (place x bit : ℕ) (a : Form) (lowest : Lowest) → IsNormal (2 ^ (place + 1)) a → Has (2 ^ (place + 1)) a x
+      → IsLowest place lowest x bit
       → Has (2 ^ (place + 1)) (left_set place a lowest) (shifted_left place x bit)
   -- decimal sums and adjustments
   pub decimal_normal : (digits : ℕ) (a b : Form) (carry : Tri) → IsNormal (16 ^ digits) a → IsNormal (16 ^ digits) b
       → IsNormal (16 ^ digits) (decimal_add_set digits a b carry)
   pub decimal : (digits x y bit : ℕ) (a b : Form) (carry : Tri) → IsNormal (16 ^ digits) a → IsNormal (16 ^ digits) b
-      → Has (16 ^ digits) a x → Has (16 ^ digits) b y → IsBit carry bit → Has (16 ^ digits) (decimal_add_set digits a b carry) (decimal_sum digits x y bit)
+      → Has (16 ^ digits) a x → Has (16 ^ digits) b y → IsBit carry bit
+      → Has (16 ^ digits) (decimal_add_set digits a b carry) (decimal_sum digits x y bit)
   pub decimal_free : (digits x y v : ℕ) (a b : Form) (carry : Tri) → Has (16 ^ digits) a x → Has (16 ^ digits) b y
       → IsFalse (is_decimal digits x && is_decimal digits y) → v < 16 ^ digits → Has (16 ^ digits) (decimal_add_set digits a b carry) v
   pub adjust_normal : (a : Form) (carry half : Tri) → IsNormal 256 a → IsNormal 256 (decimal_adjust_set a carry half)
@@ -67,11 +72,13 @@ pub record BitLaws : Type 0 where
       → slice_index_or (known_bits width a) 0 Either ≡ Zero
   pub even_from : (width : ℕ) (bits : List Tri) → length bits ≡ width → slice_index_or bits 0 Either ≡ Zero
       → HasRemainder (2 ^ width) 2 0 (from_bits width bits)
-  pub odd_from : (width : ℕ) (bits : List Tri) → length bits ≡ width → slice_index_or bits 0 Either ≡ One → HasRemainder (2 ^ width) 2 1 (from_bits width bits)
+  pub odd_from : (width : ℕ) (bits : List Tri) → length bits ≡ width → slice_index_or bits 0 Either ≡ One
+      → HasRemainder (2 ^ width) 2 1 (from_bits width bits)
   pub even_and : (width : ℕ) (a b : Form) → 1 ≤ width → IsNormal (2 ^ width) a → IsNormal (2 ^ width) b
       → HasRemainder (2 ^ width) 2 0 b → HasRemainder (2 ^ width) 2 0 (logic_set width And a b)
   -- flags
-  pub flags : (m x y z : ℕ) (flag : ℕ → ℕ → ℕ → Bool) (a b c : Form) → Has m a x → Has m b y → Has m c z → IsFlag (agreed m flag a b c) (flag x y z)
+  pub flags : (m x y z : ℕ) (flag : ℕ → ℕ → ℕ → Bool) (a b c : Form) → Has m a x → Has m b y → Has m c z
+      → IsFlag (agreed m flag a b c) (flag x y z)
   pub flags_set : (m : ℕ) (flag : ℕ → ℕ → ℕ → Bool) (a b c : Form) → count_of m a * (count_of m b * count_of m c) ≤ 256
       → ((x y z : ℕ) → Has m a x → Has m b y → Has m c z → flag x y z ≡ true) → agreed m flag a b c ≡ One
   pub flags_clear : (m : ℕ) (flag : ℕ → ℕ → ℕ → Bool) (a b c : Form) → IsNormal m a → IsNormal m b → IsNormal m c
@@ -92,12 +99,14 @@ pub record BitLaws : Type 0 where
   pub bit_xor : (a b : Tri) (x y : ℕ) → IsBit a x → IsBit b y → IsBit (tri_xor a b) ((x + y) % 2)
   -- the bits of a number
   pub bits_at : (bits : List Tri) (place v : ℕ) → Agrees bits v → IsBit (slice_index_or bits place Either) (bit_at v place)
-  pub bits_put : (bits : List Tri) (place v : ℕ) (t : Tri) → place < length bits → Agrees bits v → IsBit t (bit_at v place) → Agrees (set bits place t) v
+  pub bits_put : (bits : List Tri) (place v : ℕ) (t : Tri) → place < length bits → Agrees bits v
+      → IsBit t (bit_at v place) → Agrees (set bits place t) v
   pub bits_from : (at : ℕ → Tri) (v width : ℕ) → ((place : ℕ) → place < width → IsBit (at place) (bit_at v place)) → v < 2 ^ width
       → Agrees (map at (range_with_len 0 width)) v
   pub bits_any : (width v : ℕ) → v < 2 ^ width → Agrees (replicate width Either) v
   pub bits_zero : (width : ℕ) → Agrees (replicate width Zero) 0
   pub bits_append : (bits more : List Tri) (v w : ℕ) → Agrees bits v → Agrees more w → Agrees (bits ++ more) (v + 2 ^ length bits * w)
-  pub bits_take : (width : ℕ) (bits : List Tri) (v low high : ℕ) → v ≡ low + 2 ^ width * high → low < 2 ^ width → Agrees bits v → Agrees (take width bits) low
+  pub bits_take : (width : ℕ) (bits : List Tri) (v low high : ℕ) → v ≡ low + 2 ^ width * high → low < 2 ^ width
+      → Agrees bits v → Agrees (take width bits) low
   pub bits_drop : (width : ℕ) (bits : List Tri) (v : ℕ) → Agrees bits v → Agrees (drop width bits) (v / 2 ^ width)
   pub bits_below : (bits : List Tri) (v : ℕ) → Agrees bits v → v < 2 ^ length bits

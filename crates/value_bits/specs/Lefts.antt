@@ -47,4 +47,5 @@ left_bits place lowest bits = lowest_bit place lowest bits ∷ take place bits
 
 -- the numbers shifted to the left by one place, whose top bit has this place
 unfoldable pub left_set : (place : ℕ) → Form → Lowest → Form
-left_set place set lowest = combine_or (2 ^ (place + 1)) (left_answer place lowest) set (single 0) (lowest_carry lowest) (from_bits (place + 1) (left_bits place lowest (known_bits (place + 1) set)))
+left_set place set lowest =
+    combine_or (2 ^ (place + 1)) (left_answer place lowest) set (single 0) (lowest_carry lowest) (from_bits (place + 1) (left_bits place lowest (known_bits (place + 1) set)))

@@ -32,11 +32,13 @@ combine_or m answer first second carry otherwise =
 
 -- the bits of the result that the known bits of both sets decide
 abbrev pub logic_bits : (width : ℕ) → Logic → (first second : Form) → List Tri
-logic_bits width logic first second = map (λ place. tri_logic logic (known_bit width place first) (known_bit width place second)) (range_with_len 0 width)
+logic_bits width logic first second =
+    map (λ place. tri_logic logic (known_bit width place first) (known_bit width place second)) (range_with_len 0 width)
 
 -- the results of AND, OR or XOR
 unfoldable pub logic_set : (width : ℕ) → Logic → (first second : Form) → Form
-logic_set width logic first second = combine_or (2 ^ width) (λ x y z. logic_of logic x y) first second (single 0) (from_bits width (logic_bits width logic first second))
+logic_set width logic first second =
+    combine_or (2 ^ width) (λ x y z. logic_of logic x y) first second (single 0) (from_bits width (logic_bits width logic first second))
 
 -- ---- shifts
 
@@ -81,7 +83,8 @@ shift_bits place top bits = drop 1 bits ++ top_bit place top bits ∷ []
 
 -- the numbers shifted to the right by one place, whose top bit has this place
 unfoldable pub shift_set : (place : ℕ) → Form → Top → Form
-shift_set place set top = combine_or (2 ^ (place + 1)) (shift_answer place top) set (single 0) (top_carry top) (from_bits (place + 1) (shift_bits place top (known_bits (place + 1) set)))
+shift_set place set top =
+    combine_or (2 ^ (place + 1)) (shift_answer place top) set (single 0) (top_carry top) (from_bits (place + 1) (shift_bits place top (known_bits (place + 1) set)))
 
 -- ---- halves
 
@@ -98,10 +101,12 @@ sign_extend_set set = let bits = known_bits 16 set in
 
 -- the low and the high bytes of words
 unfoldable pub low_set : Form → Form
-low_set set = if nat_le (count_of 65536 set) 256 then gather 256 (map low_byte (members 65536 set)) else from_bits 8 (take 8 (known_bits 16 set))
+low_set set =
+    if nat_le (count_of 65536 set) 256 then gather 256 (map low_byte (members 65536 set)) else from_bits 8 (take 8 (known_bits 16 set))
 
 unfoldable pub high_set : Form → Form
-high_set set = if nat_le (count_of 65536 set) 256 then gather 256 (map high_byte (members 65536 set)) else from_bits 8 (drop 8 (known_bits 16 set))
+high_set set =
+    if nat_le (count_of 65536 set) 256 then gather 256 (map high_byte (members 65536 set)) else from_bits 8 (drop 8 (known_bits 16 set))
 
 -- each word of a low and a high byte
 abbrev pub words : (lows highs : List ℕ) → List ℕ

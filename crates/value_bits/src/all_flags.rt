@@ -64,8 +64,10 @@ pub fn all_agreed<F: AllFlags>(
     requires first_normal { IsNormal modulus first.now }
     requires second_normal { IsNormal modulus second.now }
     requires width { F.modulus operation.now ≡ modulus }
-    ensures value { (place : Place) → known_at place result ≡ flags.agreed modulus (F.value operation.now place) first.now second.now (sets.chosen carry) }
-    ensures holds { (place : Place) (x y bit : ℕ) → Has modulus first.now x → Has modulus second.now y → IsBit carry bit → IsFlag (known_at place result) (F.value operation.now place x y bit) }
+    ensures value { (place : Place)
+        → known_at place result ≡ flags.agreed modulus (F.value operation.now place) first.now second.now (sets.chosen carry) }
+    ensures holds { (place : Place) (x y bit : ℕ) → Has modulus first.now x → Has modulus second.now y
+        → IsBit carry bit → IsFlag (known_at place result) (F.value operation.now place x y bit) }
 {
     let carries = chosen(carry);
     if !is_few(modulus, first, second, &carries) {
@@ -110,7 +112,8 @@ fn all_agreed_of<F: AllFlags>(
     requires ys_some { 1 ≤ length ys.now }
     requires carries_below { All (λ n. n < modulus) carries.now }
     requires carries_some { 1 ≤ length carries.now }
-    ensures { (place : Place) → known_at place result ≡ flags.agreed_of (F.value operation.now place) xs.now ys.now carries.now }
+    ensures { (place : Place)
+        → known_at place result ≡ flags.agreed_of (F.value operation.now place) xs.now ys.now carries.now }
 {
     let wanted = flags_of(modulus, operation, xs[0], ys[0], carries[0]);
     let all = FourFlags {
@@ -173,7 +176,8 @@ fn known_where(is_known: bool, flag: bool) -> Tri
 
 /// Which flags still have their values behind one more combination.
 fn still(wanted: FourFlags, held: FourFlags, now: FourFlags) -> FourFlags
-    ensures { (place : Place) → flag_at place result ≡ (flag_at place held && flags.has_value (flag_at place wanted) (flag_at place now)) }
+    ensures { (place : Place)
+        → flag_at place result ≡ (flag_at place held && flags.has_value (flag_at place wanted) (flag_at place now)) }
 {
     FourFlags {
         first: held.first && wanted.first == now.first,
@@ -203,7 +207,8 @@ fn carries_keep<F: AllFlags>(
     requires xs_below { All (λ n. n < modulus) xs.now }
     requires ys_below { All (λ n. n < modulus) ys.now }
     requires carries_below { All (λ n. n < modulus) carries.now }
-    ensures { (place : Place) → flag_at place result ≡ (flag_at place held && list_all (λ z. list_all (λ x. list_all (λ y. flags.has_value (flag_at place wanted) (F.value operation.now place x y z)) ys.now) xs.now) carries.now) }
+    ensures { (place : Place)
+        → flag_at place result ≡ (flag_at place held && list_all (λ z. list_all (λ x. list_all (λ y. flags.has_value (flag_at place wanted) (F.value operation.now place x y z)) ys.now) xs.now) carries.now) }
 {
     let mut left = held;
     for carry in carries {
@@ -228,7 +233,8 @@ fn rows_keep<F: AllFlags>(
     requires xs_below { All (λ n. n < modulus) xs.now }
     requires ys_below { All (λ n. n < modulus) ys.now }
     requires carry_below { carry < modulus }
-    ensures { (place : Place) → flag_at place result ≡ (flag_at place held && list_all (λ x. list_all (λ y. flags.has_value (flag_at place wanted) (F.value operation.now place x y carry)) ys.now) xs.now) }
+    ensures { (place : Place)
+        → flag_at place result ≡ (flag_at place held && list_all (λ x. list_all (λ y. flags.has_value (flag_at place wanted) (F.value operation.now place x y carry)) ys.now) xs.now) }
 {
     let mut left = held;
     for x in xs {
@@ -253,7 +259,8 @@ fn row_keeps<F: AllFlags>(
     requires x_below { x < modulus }
     requires ys_below { All (λ n. n < modulus) ys.now }
     requires carry_below { carry < modulus }
-    ensures { (place : Place) → flag_at place result ≡ (flag_at place held && list_all (λ y. flags.has_value (flag_at place wanted) (F.value operation.now place x y carry)) ys.now) }
+    ensures { (place : Place)
+        → flag_at place result ≡ (flag_at place held && list_all (λ y. flags.has_value (flag_at place wanted) (F.value operation.now place x y carry)) ys.now) }
 {
     let mut left = held;
     for y in ys {

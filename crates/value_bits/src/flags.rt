@@ -56,7 +56,8 @@ pub fn agreed<F: Flag>(modulus: u32, flag: &F, first: &Form, second: &Form, carr
     requires second_normal { IsNormal modulus second.now }
     requires width { F.modulus flag.now ≡ modulus }
     ensures value { result ≡ flags.agreed modulus (F.value flag.now) first.now second.now (chosen carry) }
-    ensures holds { (x y bit : ℕ) → Has modulus first.now x → Has modulus second.now y → IsBit carry bit → IsFlag result (F.value flag.now x y bit) }
+    ensures holds { (x y bit : ℕ) → Has modulus first.now x → Has modulus second.now y → IsBit carry bit
+        → IsFlag result (F.value flag.now x y bit) }
 {
     all_agreed(modulus, &Fourfold { flag }, first, second, carry).first
 }

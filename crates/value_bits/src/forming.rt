@@ -114,7 +114,8 @@ pub fn combined<O: Operation>(
     requires carry_normal { IsNormal modulus carry.now }
     requires width { O.modulus operation.now ≡ modulus }
     ensures few { IfSome result (λ set. (otherwise : AForm) → set ≡ sets.combine_or modulus (O.answer operation.now) first.now second.now carry.now otherwise) }
-    ensures many { IsNone result → (otherwise : AForm) → otherwise ≡ sets.combine_or modulus (O.answer operation.now) first.now second.now carry.now otherwise }
+    ensures many { IsNone result → (otherwise : AForm)
+        → otherwise ≡ sets.combine_or modulus (O.answer operation.now) first.now second.now carry.now otherwise }
 {
     if !is_few(modulus, first, second, carry) {
         return None;

@@ -36,7 +36,8 @@ pub fn logic(width: u32, logic: Logic, a: &Form, b: &Form) -> Form
     requires second_normal { IsNormal (2 ^ width) b.now }
     ensures value { result ≡ sets.logic_set width logic a.now b.now }
     ensures normal { IsNormal (2 ^ width) result }
-    ensures holds { (x y : ℕ) → Has (2 ^ width) a.now x → Has (2 ^ width) b.now y → Has (2 ^ width) result (logic_of logic x y) }
+    ensures holds { (x y : ℕ) → Has (2 ^ width) a.now x → Has (2 ^ width) b.now y
+        → Has (2 ^ width) result (logic_of logic x y) }
     ensures alone { (x y : ℕ) → a.now ≡ single x → b.now ≡ single y → result ≡ single (logic_of logic x y) }
 {
     logic_holds();
@@ -49,8 +50,10 @@ pub fn shift_right(place: u32, a: &Form, top: Top) -> Form
     requires normal { IsNormal (2 ^ (place + 1)) a.now }
     ensures value { result ≡ sets.shift_set place a.now top }
     ensures normal { IsNormal (2 ^ (place + 1)) result }
-    ensures holds { (x bit : ℕ) → Has (2 ^ (place + 1)) a.now x → IsTop place top x bit → Has (2 ^ (place + 1)) result (shifted_right place x bit) }
-    ensures alone { (x bit : ℕ) → a.now ≡ single x → IsOneTop top → IsTop place top x bit → result ≡ single (shifted_right place x bit) }
+    ensures holds { (x bit : ℕ) → Has (2 ^ (place + 1)) a.now x → IsTop place top x bit
+        → Has (2 ^ (place + 1)) result (shifted_right place x bit) }
+    ensures alone { (x bit : ℕ) → a.now ≡ single x → IsOneTop top → IsTop place top x bit
+        → result ≡ single (shifted_right place x bit) }
 {
     moves_hold();
     shift_set(place, a, top)
@@ -62,8 +65,10 @@ pub fn shift_left(place: u32, a: &Form, lowest: Lowest) -> Form
     requires normal { IsNormal (2 ^ (place + 1)) a.now }
     ensures value { result ≡ lefts.left_set place a.now lowest }
     ensures normal { IsNormal (2 ^ (place + 1)) result }
-    ensures holds { (x bit : ℕ) → Has (2 ^ (place + 1)) a.now x → IsLowest place lowest x bit → Has (2 ^ (place + 1)) result (shifted_left place x bit) }
-    ensures alone { (x bit : ℕ) → a.now ≡ single x → IsOneLowest lowest → IsLowest place lowest x bit → result ≡ single (shifted_left place x bit) }
+    ensures holds { (x bit : ℕ) → Has (2 ^ (place + 1)) a.now x → IsLowest place lowest x bit
+        → Has (2 ^ (place + 1)) result (shifted_left place x bit) }
+    ensures alone { (x bit : ℕ) → a.now ≡ single x → IsOneLowest lowest → IsLowest place lowest x bit
+        → result ≡ single (shifted_left place x bit) }
 {
     left_shifts_hold();
     left_set(place, a, lowest)
@@ -75,7 +80,8 @@ pub fn exchange(half: u32, a: &Form) -> Form
     requires normal { IsNormal (2 ^ (half + half)) a.now }
     ensures value { result ≡ sets.exchange_set half a.now }
     ensures normal { IsNormal (2 ^ (half + half)) result }
-    ensures holds { (x : ℕ) → Has (2 ^ (half + half)) a.now x → Has (2 ^ (half + half)) result (exchanged (2 ^ half) x) }
+    ensures holds { (x : ℕ) → Has (2 ^ (half + half)) a.now x
+        → Has (2 ^ (half + half)) result (exchanged (2 ^ half) x) }
     ensures alone { (x : ℕ) → a.now ≡ single x → result ≡ single (exchanged (2 ^ half) x) }
 {
     moves_hold();
@@ -90,9 +96,14 @@ pub fn decimal_add(digits: u32, a: &Form, b: &Form, carry: Tri) -> Form
     requires second_normal { IsNormal (16 ^ digits) b.now }
     ensures value { result ≡ sets.decimal_add_set digits a.now b.now carry }
     ensures normal { IsNormal (16 ^ digits) result }
-    ensures holds { (x y bit : ℕ) → Has (16 ^ digits) a.now x → Has (16 ^ digits) b.now y → IsBit carry bit → IsTrue (is_decimal digits x) → IsTrue (is_decimal digits y) → Has (16 ^ digits) result (decimal_sum digits x y bit) }
-    ensures free { (x y v : ℕ) → Has (16 ^ digits) a.now x → Has (16 ^ digits) b.now y → IsFalse (is_decimal digits x && is_decimal digits y) → v < 16 ^ digits → Has (16 ^ digits) result v }
-    ensures alone { (x y bit : ℕ) → a.now ≡ single x → b.now ≡ single y → carry ≡ known.tri bit → bit < 2 → IsTrue (is_decimal digits x) → IsTrue (is_decimal digits y) → result ≡ single (decimal_sum digits x y bit) }
+    ensures holds { (x y bit : ℕ) → Has (16 ^ digits) a.now x → Has (16 ^ digits) b.now y → IsBit carry bit
+        → IsTrue (is_decimal digits x) → IsTrue (is_decimal digits y)
+        → Has (16 ^ digits) result (decimal_sum digits x y bit) }
+    ensures free { (x y v : ℕ) → Has (16 ^ digits) a.now x → Has (16 ^ digits) b.now y
+        → IsFalse (is_decimal digits x && is_decimal digits y) → v < 16 ^ digits → Has (16 ^ digits) result v }
+    ensures alone { (x y bit : ℕ) → a.now ≡ single x → b.now ≡ single y → carry ≡ known.tri bit → bit < 2
+        → IsTrue (is_decimal digits x) → IsTrue (is_decimal digits y)
+        → result ≡ single (decimal_sum digits x y bit) }
 {
     decimals_hold();
     decimal_add_set(digits, a, b, carry)

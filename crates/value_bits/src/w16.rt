@@ -90,7 +90,8 @@ pub fn shift_right(a: &Vs16, top: Top) -> Vs16
     ensures value { result ≡ sets.shift_set 15 a.now top }
     ensures normal { IsNormal 65536 result }
     ensures holds { (x bit : ℕ) → Has 65536 a.now x → IsTop 15 top x bit → Has 65536 result (shifted_right 15 x bit) }
-    ensures alone { (x bit : ℕ) → a.now ≡ single x → IsOneTop top → IsTop 15 top x bit → result ≡ single (shifted_right 15 x bit) }
+    ensures alone { (x bit : ℕ) → a.now ≡ single x → IsOneTop top → IsTop 15 top x bit
+        → result ≡ single (shifted_right 15 x bit) }
 {
     Vs16::from_form(results::shift_right(15, &a.form(), top))
 }
@@ -163,7 +164,8 @@ pub fn pair(low: &Vs8, high: &Vs8) -> Vs16
 pub fn agreed<F: Flag>(flag: &F, a: &Vs16, b: &Vs16, carry: Tri) -> Tri
     requires { F.modulus flag.now ≡ 65536 }
     ensures value { result ≡ flag_sets.agreed 65536 (F.value flag.now) a.now b.now (sets.chosen carry) }
-    ensures holds { (x y bit : ℕ) → Has 65536 a.now x → Has 65536 b.now y → IsBit carry bit → IsFlag result (F.value flag.now x y bit) }
+    ensures holds { (x y bit : ℕ) → Has 65536 a.now x → Has 65536 b.now y → IsBit carry bit
+        → IsFlag result (F.value flag.now x y bit) }
 {
     flags::agreed(65536, flag, &a.form(), &b.form(), carry)
 }
@@ -172,8 +174,10 @@ pub fn agreed<F: Flag>(flag: &F, a: &Vs16, b: &Vs16, carry: Tri) -> Tri
 /// and a carry. Each is what [`agreed`] tells of it, and each combination is worked out once.
 pub fn all_agreed<F: AllFlags>(operation: &F, a: &Vs16, b: &Vs16, carry: Tri) -> FourKnown
     requires { F.modulus operation.now ≡ 65536 }
-    ensures value { (place : Place) → known_at place result ≡ flag_sets.agreed 65536 (F.value operation.now place) a.now b.now (sets.chosen carry) }
-    ensures holds { (place : Place) (x y bit : ℕ) → Has 65536 a.now x → Has 65536 b.now y → IsBit carry bit → IsFlag (known_at place result) (F.value operation.now place x y bit) }
+    ensures value { (place : Place)
+        → known_at place result ≡ flag_sets.agreed 65536 (F.value operation.now place) a.now b.now (sets.chosen carry) }
+    ensures holds { (place : Place) (x y bit : ℕ) → Has 65536 a.now x → Has 65536 b.now y → IsBit carry bit
+        → IsFlag (known_at place result) (F.value operation.now place x y bit) }
 {
     all_flags::all_agreed(65536, operation, &a.form(), &b.form(), carry)
 }
@@ -201,9 +205,12 @@ pub fn equal(a: &Vs16, b: &Vs16) -> Tri
 pub fn decimal_add(a: &Vs16, b: &Vs16, carry: Tri) -> Vs16
     ensures value { result ≡ sets.decimal_add_set 4 a.now b.now carry }
     ensures normal { IsNormal 65536 result }
-    ensures holds { (x y bit : ℕ) → Has 65536 a.now x → Has 65536 b.now y → IsBit carry bit → IsTrue (is_decimal 4 x) → IsTrue (is_decimal 4 y) → Has 65536 result (decimal_sum 4 x y bit) }
-    ensures free { (x y v : ℕ) → Has 65536 a.now x → Has 65536 b.now y → IsFalse (is_decimal 4 x && is_decimal 4 y) → v < 65536 → Has 65536 result v }
-    ensures alone { (x y bit : ℕ) → a.now ≡ single x → b.now ≡ single y → carry ≡ known.tri bit → bit < 2 → IsTrue (is_decimal 4 x) → IsTrue (is_decimal 4 y) → result ≡ single (decimal_sum 4 x y bit) }
+    ensures holds { (x y bit : ℕ) → Has 65536 a.now x → Has 65536 b.now y → IsBit carry bit
+        → IsTrue (is_decimal 4 x) → IsTrue (is_decimal 4 y) → Has 65536 result (decimal_sum 4 x y bit) }
+    ensures free { (x y v : ℕ) → Has 65536 a.now x → Has 65536 b.now y
+        → IsFalse (is_decimal 4 x && is_decimal 4 y) → v < 65536 → Has 65536 result v }
+    ensures alone { (x y bit : ℕ) → a.now ≡ single x → b.now ≡ single y → carry ≡ known.tri bit → bit < 2
+        → IsTrue (is_decimal 4 x) → IsTrue (is_decimal 4 y) → result ≡ single (decimal_sum 4 x y bit) }
 {
     Vs16::from_form(results::decimal_add(4, &a.form(), &b.form(), carry))
 }

@@ -90,7 +90,8 @@ pub fn shift_right(a: &Vs8, top: Top) -> Vs8
     ensures value { result ≡ sets.shift_set 7 a.now top }
     ensures normal { IsNormal 256 result }
     ensures holds { (x bit : ℕ) → Has 256 a.now x → IsTop 7 top x bit → Has 256 result (shifted_right 7 x bit) }
-    ensures alone { (x bit : ℕ) → a.now ≡ single x → IsOneTop top → IsTop 7 top x bit → result ≡ single (shifted_right 7 x bit) }
+    ensures alone { (x bit : ℕ) → a.now ≡ single x → IsOneTop top → IsTop 7 top x bit
+        → result ≡ single (shifted_right 7 x bit) }
 {
     Vs8::from_form(results::shift_right(7, &a.form(), top))
 }
@@ -100,7 +101,8 @@ pub fn shift_left(a: &Vs8, lowest: Lowest) -> Vs8
     ensures value { result ≡ lefts.left_set 7 a.now lowest }
     ensures normal { IsNormal 256 result }
     ensures holds { (x bit : ℕ) → Has 256 a.now x → IsLowest 7 lowest x bit → Has 256 result (shifted_left 7 x bit) }
-    ensures alone { (x bit : ℕ) → a.now ≡ single x → IsOneLowest lowest → IsLowest 7 lowest x bit → result ≡ single (shifted_left 7 x bit) }
+    ensures alone { (x bit : ℕ) → a.now ≡ single x → IsOneLowest lowest → IsLowest 7 lowest x bit
+        → result ≡ single (shifted_left 7 x bit) }
 {
     Vs8::from_form(results::shift_left(7, &a.form(), lowest))
 }
@@ -120,7 +122,8 @@ pub fn swap_digits(a: &Vs8) -> Vs8
 pub fn agreed<F: Flag>(flag: &F, a: &Vs8, b: &Vs8, carry: Tri) -> Tri
     requires { F.modulus flag.now ≡ 256 }
     ensures value { result ≡ flag_sets.agreed 256 (F.value flag.now) a.now b.now (sets.chosen carry) }
-    ensures holds { (x y bit : ℕ) → Has 256 a.now x → Has 256 b.now y → IsBit carry bit → IsFlag result (F.value flag.now x y bit) }
+    ensures holds { (x y bit : ℕ) → Has 256 a.now x → Has 256 b.now y → IsBit carry bit
+        → IsFlag result (F.value flag.now x y bit) }
 {
     flags::agreed(256, flag, &a.form(), &b.form(), carry)
 }
@@ -129,8 +132,10 @@ pub fn agreed<F: Flag>(flag: &F, a: &Vs8, b: &Vs8, carry: Tri) -> Tri
 /// and a carry. Each is what [`agreed`] tells of it, and each combination is worked out once.
 pub fn all_agreed<F: AllFlags>(operation: &F, a: &Vs8, b: &Vs8, carry: Tri) -> FourKnown
     requires { F.modulus operation.now ≡ 256 }
-    ensures value { (place : Place) → known_at place result ≡ flag_sets.agreed 256 (F.value operation.now place) a.now b.now (sets.chosen carry) }
-    ensures holds { (place : Place) (x y bit : ℕ) → Has 256 a.now x → Has 256 b.now y → IsBit carry bit → IsFlag (known_at place result) (F.value operation.now place x y bit) }
+    ensures value { (place : Place)
+        → known_at place result ≡ flag_sets.agreed 256 (F.value operation.now place) a.now b.now (sets.chosen carry) }
+    ensures holds { (place : Place) (x y bit : ℕ) → Has 256 a.now x → Has 256 b.now y → IsBit carry bit
+        → IsFlag (known_at place result) (F.value operation.now place x y bit) }
 {
     all_flags::all_agreed(256, operation, &a.form(), &b.form(), carry)
 }
@@ -158,9 +163,12 @@ pub fn equal(a: &Vs8, b: &Vs8) -> Tri
 pub fn decimal_add(a: &Vs8, b: &Vs8, carry: Tri) -> Vs8
     ensures value { result ≡ sets.decimal_add_set 2 a.now b.now carry }
     ensures normal { IsNormal 256 result }
-    ensures holds { (x y bit : ℕ) → Has 256 a.now x → Has 256 b.now y → IsBit carry bit → IsTrue (is_decimal 2 x) → IsTrue (is_decimal 2 y) → Has 256 result (decimal_sum 2 x y bit) }
-    ensures free { (x y v : ℕ) → Has 256 a.now x → Has 256 b.now y → IsFalse (is_decimal 2 x && is_decimal 2 y) → v < 256 → Has 256 result v }
-    ensures alone { (x y bit : ℕ) → a.now ≡ single x → b.now ≡ single y → carry ≡ known.tri bit → bit < 2 → IsTrue (is_decimal 2 x) → IsTrue (is_decimal 2 y) → result ≡ single (decimal_sum 2 x y bit) }
+    ensures holds { (x y bit : ℕ) → Has 256 a.now x → Has 256 b.now y → IsBit carry bit
+        → IsTrue (is_decimal 2 x) → IsTrue (is_decimal 2 y) → Has 256 result (decimal_sum 2 x y bit) }
+    ensures free { (x y v : ℕ) → Has 256 a.now x → Has 256 b.now y
+        → IsFalse (is_decimal 2 x && is_decimal 2 y) → v < 256 → Has 256 result v }
+    ensures alone { (x y bit : ℕ) → a.now ≡ single x → b.now ≡ single y → carry ≡ known.tri bit → bit < 2
+        → IsTrue (is_decimal 2 x) → IsTrue (is_decimal 2 y) → result ≡ single (decimal_sum 2 x y bit) }
 {
     Vs8::from_form(results::decimal_add(2, &a.form(), &b.form(), carry))
 }
@@ -170,8 +178,10 @@ pub fn decimal_add(a: &Vs8, b: &Vs8, carry: Tri) -> Vs8
 pub fn decimal_adjust(a: &Vs8, carry: Tri, half: Tri) -> Vs8
     ensures value { result ≡ sets.decimal_adjust_set a.now carry half }
     ensures normal { IsNormal 256 result }
-    ensures holds { (x y z : ℕ) → Has 256 a.now x → IsBit carry y → IsBit half z → Has 256 result (decimal_adjusted x y z) }
-    ensures alone { (x y z : ℕ) → a.now ≡ single x → carry ≡ known.tri y → y < 2 → half ≡ known.tri z → z < 2 → result ≡ single (decimal_adjusted x y z) }
+    ensures holds { (x y z : ℕ) → Has 256 a.now x → IsBit carry y → IsBit half z
+        → Has 256 result (decimal_adjusted x y z) }
+    ensures alone { (x y z : ℕ) → a.now ≡ single x → carry ≡ known.tri y → y < 2 → half ≡ known.tri z → z < 2
+        → result ≡ single (decimal_adjusted x y z) }
 {
     decimals_hold();
     Vs8::from_form(decimal_adjust_set(&a.form(), carry, half))

@@ -24,7 +24,8 @@ member_below m v (Run p) n h = run_below m p.base p.stride p.count v (let b = n.
 pub count_of_run : (m : ℕ) (set : Form) (p : Progression) → set ≡ Run p → length (members m set) ≡ p.count
 count_of_run m set p is = rw is (length-steps m p.base p.stride p.count)
 
-pub nth_in_run : (m i : ℕ) (set : Form) (p : Progression) → set ≡ Run p → i < p.count → (p.base + i * p.stride) % m ≡ slice_index (members m set) i
+pub nth_in_run : (m i : ℕ) (set : Form) (p : Progression) → set ≡ Run p → i < p.count
+    → (p.base + i * p.stride) % m ≡ slice_index (members m set) i
 nth_in_run m i set p is short = rw is (sym (get_or-steps m p.base p.stride p.count i 0 short))
 
 pub not_in_run : (m v far : ℕ) (p : Progression) → IsNormalRun m p.base p.stride p.count → v < m → far ≡ above m p.base v
@@ -76,8 +77,10 @@ pub denied : (b : Bool) (P : Type 0) → IsTrue b ↔ P → b ≡ false → P �
 denied b P h refused p = iff_false h refused p
 
 -- the run doesn't go round
-pub within_straight : (m : ℕ) (p q : Progression) (o last end : ℕ) → IsNormalRun m p.base p.stride p.count → IsNormalRun m q.base q.stride q.count
-    → o ≡ above m q.base p.base → q.stride ∣ o → q.stride ∣ p.stride → last ≡ o + (p.count - 1) * p.stride → end ≡ (q.count - 1) * q.stride → last < m
+pub within_straight : (m : ℕ) (p q : Progression) (o last end : ℕ) → IsNormalRun m p.base p.stride p.count
+    → IsNormalRun m q.base q.stride q.count
+    → o ≡ above m q.base p.base → q.stride ∣ o → q.stride ∣ p.stride → last ≡ o + (p.count - 1) * p.stride
+    → end ≡ (q.count - 1) * q.stride → last < m
     → IsTrue (leb last end) ↔ Includes m (Run q) (Run p)
 within_straight m p q o last end n k is start strides last_is end_is low = (
   λ t. fit_includes m p q o n k is (start, strides, inl (omega (arith, last_is), omega (arith, last_is, end_is, leb-true last end t))),
@@ -88,8 +91,10 @@ within_straight m p q o last end n k is start strides last_is end_is low = (
 )
 
 -- it goes round
-pub within_round : (m : ℕ) (p q : Progression) (o last turn end : ℕ) → IsNormalRun m p.base p.stride p.count → IsNormalRun m q.base q.stride q.count
-    → o ≡ above m q.base p.base → q.stride ∣ o → q.stride ∣ p.stride → last ≡ o + (p.count - 1) * p.stride → end ≡ (q.count - 1) * q.stride → m ≤ last
+pub within_round : (m : ℕ) (p q : Progression) (o last turn end : ℕ) → IsNormalRun m p.base p.stride p.count
+    → IsNormalRun m q.base q.stride q.count
+    → o ≡ above m q.base p.base → q.stride ∣ o → q.stride ∣ p.stride → last ≡ o + (p.count - 1) * p.stride
+    → end ≡ (q.count - 1) * q.stride → m ≤ last
     → q.stride ∣ m → turn ≡ o + (m - 1 - o) / p.stride * p.stride → IsTrue (leb turn end) ↔ Includes m (Run q) (Run p)
 within_round m p q o last turn end n k is start strides last_is end_is high whole turn_is = (
   λ t. fit_includes m p q o n k is (start, strides, inr (omega (arith, last_is), whole, omega (arith, turn_is, end_is, leb-true turn end t))),
@@ -99,7 +104,8 @@ within_round m p q o last turn end n k is start strides last_is end_is high whol
   ]),
 )
 
-pub within_no_turn : (m : ℕ) (p q : Progression) (o last : ℕ) → IsNormalRun m p.base p.stride p.count → IsNormalRun m q.base q.stride q.count
+pub within_no_turn : (m : ℕ) (p q : Progression) (o last : ℕ) → IsNormalRun m p.base p.stride p.count
+    → IsNormalRun m q.base q.stride q.count
     → o ≡ above m q.base p.base → last ≡ o + (p.count - 1) * p.stride → m ≤ last → (q.stride ∣ m → ⊥) → Includes m (Run q) (Run p) → ⊥
 within_no_turn m p q o last n k is last_is high refused inside = elim (runs_fit m p q o n k is inside).2 [
   | inl straight ↦ absurd (omega (arith, straight.0, last_is))
@@ -112,12 +118,14 @@ pub each_more : (m i : ℕ) (smaller larger : Form) (v : ℕ) → ((k : ℕ) →
     → v ≡ slice_index (members m smaller) i → Has m larger v → (k : ℕ) → k < i + 1 → Has m larger (slice_index (members m smaller) k)
 each_more m i smaller larger v before is here = below_more (λ (k : ℕ). Has m larger (slice_index (members m smaller) k)) i before (subst (λ (w : ℕ). Has m larger w) is here)
 
-pub each_all : (m i : ℕ) (smaller larger : Form) → length (members m smaller) ≤ i → ((k : ℕ) → k < i → Has m larger (slice_index (members m smaller) k))
+pub each_all : (m i : ℕ) (smaller larger : Form) → length (members m smaller) ≤ i
+    → ((k : ℕ) → k < i → Has m larger (slice_index (members m smaller) k))
     → Includes m larger smaller
 each_all m i smaller larger whole every v (k, short, is) =
     subst (λ (w : ℕ). Has m larger w) (sym (get_or_default_zero (members m smaller) k v short) ∙ is) (every k (omega arith))
 
-pub each_fails : (m i v : ℕ) (smaller larger : Form) → i < length (members m smaller) → v ≡ slice_index (members m smaller) i → (Has m larger v → ⊥)
+pub each_fails : (m i v : ℕ) (smaller larger : Form) → i < length (members m smaller)
+    → v ≡ slice_index (members m smaller) i → (Has m larger v → ⊥)
     → Includes m larger smaller → ⊥
 each_fails m i v smaller larger short is refused inside = refused (inside v (i, short, get_or_default_zero (members m smaller) i v short ∙ sym is))
 

@@ -72,7 +72,8 @@ climbs n m b d c half stride below low zero short =
 climbs n m b d c half stride below low (suc i) short =
     next_step n m b d i half stride (climbs n m b d c half stride below low i (omega arith)) (low (suc i) short)
 
-run_low : (n m b d c : ℕ) → n + n ≤ m → 17 ≤ c → b < m → (c - 1) * d < m → ((v : ℕ) → Contains (steps m b d c) v → v < n) → b + (c - 1) * d < n
+run_low : (n m b d c : ℕ) → n + n ≤ m → 17 ≤ c → b < m → (c - 1) * d < m
+    → ((v : ℕ) → Contains (steps m b d c) v → v < n) → b + (c - 1) * d < n
 run_low n m b d c half long below once low =
     let product = mul-le-mul_right {m = 2} {n = c - 1} d (omega arith) in
     climbs n m b d c half (omega (arith, product, once)) below (λ i short. low ((b + i * d) % m) (steps_has m b d c ((b + i * d) % m) (i, short, refl))) (c - 1) (omega arith)
@@ -178,7 +179,8 @@ second_taken m one other below less = rw (lt-leb m other.end below) (elim (cases
       rw (once, ne_eqb other.end one.end differ) (lt-ltb other.end one.end less)
 ])
 
-first_low : (n m v : ℕ) (one other : Stretch) → n ≤ m → EndsLow n one → EndsLow n other ⊎ (n ≤ other.end) → Has m (choose m one other) v → v < n
+first_low : (n m v : ℕ) (one other : Stretch) → n ≤ m → EndsLow n one → EndsLow n other ⊎ (n ≤ other.end)
+    → Has m (choose m one other) v → v < n
 unfolding choose
 first_low n m v one other h low ends =
     let below : one.end < m = omega (arith, low) in
@@ -206,7 +208,8 @@ spans_low n m v p q half low other = elim (cases_order p.base q.base) [
   ]
 ]
 
-apart_low : (n m v : ℕ) (a b : Form) → n + n ≤ m → IsNormal m a → IsNormal m b → ((w : ℕ) → Has m a w → w < n) → ((w : ℕ) → Has m b w → w < n)
+apart_low : (n m v : ℕ) (a b : Form) → n + n ≤ m → IsNormal m a → IsNormal m b → ((w : ℕ) → Has m a w → w < n)
+    → ((w : ℕ) → Has m b w → w < n)
     → Has m (join_apart m a b) v → v < n
 unfolding join_apart
 apart_low n m v (Values xs) (Values ys) half k l low other = elim (cases_Bool (nat_le (length (ascending (xs ++ ys))) 16)) [

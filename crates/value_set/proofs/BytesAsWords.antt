@@ -26,7 +26,8 @@ bytes_ascend set normal = Ascends-put_all 65536 [] (members 256 set) (λ v i. wi
 pub bytes_some : (set : Form) → IsNormal 256 set → 1 ≤ length (ascending (members 256 set))
 bytes_some set normal = ascending_some (members 256 set) (some_members 256 set normal)
 
-pub all_gathered : (i : ℕ) (values given xs : List ℕ) → values ≡ ascending (take i xs) → given ≡ values → length xs ≤ i → given ≡ ascending xs
+pub all_gathered : (i : ℕ) (values given xs : List ℕ) → values ≡ ascending (take i xs) → given ≡ values → length xs ≤ i
+    → given ≡ ascending xs
 all_gathered i values given xs is same h = same ∙ is ∙ ap (λ (ys : List ℕ). ascending ys) (take_all i xs h)
 
 pub words_normal : (set : Form) → IsNormal 256 set → IsNormal 65536 (gather 65536 (members 256 set))
@@ -57,7 +58,8 @@ pub bytes_normal : (set : Form) → IsNormal 65536 set → IsByteList set → Is
 bytes_normal (Values xs) normal below = (normal.0, normal.1, narrower 0 65536 256 xs (λ v i. below v (Contains_from_in xs v i)) normal.2)
 bytes_normal (Run p) normal below = absurd below
 
-pub last_greatest : (m n last : ℕ) (xs : List ℕ) → Ascends 0 m xs → last ≡ get_or xs (length xs - 1) 0 → last < n → (v : ℕ) → Contains xs v → v < n
+pub last_greatest : (m n last : ℕ) (xs : List ℕ) → Ascends 0 m xs → last ≡ get_or xs (length xs - 1) 0 → last < n
+    → (v : ℕ) → Contains xs v → v < n
 last_greatest m n last xs a is low v there =
     let order = Ascends-order 0 m there.0 (length xs - 1) xs a (omega (arith, there.1)) (omega (arith, there.1)) in
     omega (arith, order, is, low, get_or_default_zero xs there.0 v there.1, there.2)

@@ -12,13 +12,15 @@ all_below_in m v [] h i = absurd i
 all_below_in m v (x ∷ xs) h (inl e) = omega (arith, h.0, e)
 all_below_in m v (x ∷ xs) h (inr i) = all_below_in m v xs h.1 i
 
-pub gathered_fits : {X : Type 0} (f : X → ℕ) (m : ℕ) (xs : List X) → All (λ n. f n < m) xs → 1 ≤ length xs → Ascends 0 m (ascending (map f xs)) × (1 ≤ length (ascending (map f xs)))
+pub gathered_fits : {X : Type 0} (f : X → ℕ) (m : ℕ) (xs : List X) → All (λ n. f n < m) xs → 1 ≤ length xs
+    → Ascends 0 m (ascending (map f xs)) × (1 ≤ length (ascending (map f xs)))
 gathered_fits f m xs below some = (
   Ascends-put_all m [] (map f xs) (λ v h. all_below_in m v (map f xs) (AllBelow_from f m xs below) h) tt,
   ascending_some (map f xs) (omega (arith, length-map xs f, some)),
 )
 
-pub gathered_all : {X : Type 0} (f : X → ℕ) (i : ℕ) (list : List X) (values given : List ℕ) → values ≡ ascending (map f (take i list)) → length list ≤ i → given ≡ values → given ≡ ascending (map f list)
+pub gathered_all : {X : Type 0} (f : X → ℕ) (i : ℕ) (list : List X) (values given : List ℕ)
+    → values ≡ ascending (map f (take i list)) → length list ≤ i → given ≡ values → given ≡ ascending (map f list)
 gathered_all {X} f i list values given is h same = same ∙ is ∙ ap (λ (xs : List X). ascending (map f xs)) (take_all i list h)
 
 pub all_rise : {X : Type 0} (f : X → ℕ) (m : ℕ) (xs : List X) → All (λ n. f n < m) xs → Ascends 0 m (ascending (map f xs))

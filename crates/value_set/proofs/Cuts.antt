@@ -57,7 +57,8 @@ none_from_list (y ∷ ys) h = absurd (h y (inl refl))
 
 -- ---- how many numbers lie below an end
 
-pub count_below-some : (end base stride count : ℕ) → base < end → count_below end base stride count ≡ lesser count ((end - 1 - base) / stride + 1)
+pub count_below-some : (end base stride count : ℕ) → base < end
+    → count_below end base stride count ≡ lesser count ((end - 1 - base) / stride + 1)
 unfolding count_below
 count_below-some end base stride count h = rw (lt-ltb base end h) refl
 
@@ -77,7 +78,8 @@ counted end base stride count i pos short low =
     let found = lesser_below i count ((end - 1 - base) / stride + 1) short (omega (arith, under)) in
     omega (arith, count_below-some end base stride count (omega arith), found)
 
-pub count_tells : (end base stride count i : ℕ) → 0 < stride → i < count_below end base stride count → (i < count) × (base + i * stride < end)
+pub count_tells : (end base stride count i : ℕ) → 0 < stride → i < count_below end base stride count
+    → (i < count) × (base + i * stride < end)
 count_tells end base stride count i pos h = elim (cases_lt base end) [
   | inl low ↦
       let found = below_lesser i count ((end - 1 - base) / stride + 1) (omega (arith, h, count_below-some end base stride count low)) in
@@ -108,17 +110,20 @@ part_has : (m base stride count v : ℕ) → Fits m stride count → InRun m bas
 part_has m base stride count v fits run =
     (make m base stride count, part-some m base stride count (let some = fits.some in λ none. omega (arith, none, some)), make_has m base stride count v fits run)
 
-joined_front : (m v : ℕ) (front behind : Option Form) → IfThere (λ set. IsNormal m set) front → IfThere (λ set. IsNormal m set) behind → HasPart m v front → HasPart m v (join_parts m front behind)
+joined_front : (m v : ℕ) (front behind : Option Form) → IfThere (λ set. IsNormal m set) front
+    → IfThere (λ set. IsNormal m set) behind → HasPart m v front → HasPart m v (join_parts m front behind)
 joined_front m v None behind n k (set, is, h) = cc is
 joined_front m v (Some a) None n k (set, is, h) = (set, is, h)
 joined_front m v (Some a) (Some b) n k (set, is, h) = let e : set ≡ a = cc is in (join m a b, refl, join_includes_first m a b n k v (subst (λ (s : Form). Has m s v) e h))
 
-joined_behind : (m v : ℕ) (front behind : Option Form) → IfThere (λ set. IsNormal m set) front → IfThere (λ set. IsNormal m set) behind → HasPart m v behind → HasPart m v (join_parts m front behind)
+joined_behind : (m v : ℕ) (front behind : Option Form) → IfThere (λ set. IsNormal m set) front
+    → IfThere (λ set. IsNormal m set) behind → HasPart m v behind → HasPart m v (join_parts m front behind)
 joined_behind m v None behind n k h = h
 joined_behind m v (Some a) None n k (set, is, h) = cc is
 joined_behind m v (Some a) (Some b) n k (set, is, h) = let e : set ≡ b = cc is in (join m a b, refl, join_includes_second m a b n k v (subst (λ (s : Form). Has m s v) e h))
 
-joined_normal : (m : ℕ) (front behind : Option Form) → IfThere (λ set. IsNormal m set) front → IfThere (λ set. IsNormal m set) behind → IfThere (λ set. IsNormal m set) (join_parts m front behind)
+joined_normal : (m : ℕ) (front behind : Option Form) → IfThere (λ set. IsNormal m set) front
+    → IfThere (λ set. IsNormal m set) behind → IfThere (λ set. IsNormal m set) (join_parts m front behind)
 joined_normal m None behind n k = k
 joined_normal m (Some a) None n k = n
 joined_normal m (Some a) (Some b) n k = join_normal m a b n k
@@ -138,7 +143,8 @@ none_joined m (Some a) behind h k = cc h
 pub base_seen : (m low : ℕ) (p : Progression) → low < m → p.base < m → (low + above m low p.base) % m ≡ p.base
 base_seen m low p h k = above_back m low p.base h k
 
-number_seen : (m low i : ℕ) (p : Progression) → low < m → p.base < m → above m low ((p.base + i * p.stride) % m) ≡ (above m low p.base + i * p.stride) % m
+number_seen : (m low i : ℕ) (p : Progression) → low < m → p.base < m
+    → above m low ((p.base + i * p.stride) % m) ≡ (above m low p.base + i * p.stride) % m
 number_seen m low i p h k = let pos : 0 < m = omega arith in
     ap (λ (b : ℕ). above m low ((b + i * p.stride) % m)) (sym (base_seen m low p h k)) ∙ seen m low (above m low p.base) p.stride i h (above_below m low p.base pos)
 
@@ -157,10 +163,12 @@ count_less end base stride count pos = elim (cases_lt count (count_below end bas
 abbrev pub Low : (m : ℕ) (p : Progression) (low : ℕ) → Type 0
 Low m p low = IsNormalRun m p.base p.stride p.count × (low < m)
 
-front_holds : (m low i : ℕ) (p : Progression) → 0 < p.stride → i < front_count m p low → (i < p.count) × (above m low p.base + i * p.stride < m)
+front_holds : (m low i : ℕ) (p : Progression) → 0 < p.stride → i < front_count m p low
+    → (i < p.count) × (above m low p.base + i * p.stride < m)
 front_holds m low i p pos h = count_tells m (above m low p.base) p.stride p.count i pos h
 
-pub behind_starts : (m low : ℕ) (p : Progression) → 0 < p.stride → front_count m p low < p.count → m ≤ above m low p.base + front_count m p low * p.stride
+pub behind_starts : (m low : ℕ) (p : Progression) → 0 < p.stride → front_count m p low < p.count
+    → m ≤ above m low p.base + front_count m p low * p.stride
 behind_starts m low p pos h = elim (cases_lt (above m low p.base + front_count m p low * p.stride) m) [
   | inl under ↦ absurd (let again = counted m (above m low p.base) p.stride p.count (front_count m p low) pos h under in omega (arith, again))
   | inr over ↦ over
@@ -172,7 +180,8 @@ front_part m p low len = part m p.base p.stride (count_below len (above m low p.
 unfoldable pub behind_part : (m : ℕ) (p : Progression) (low len : ℕ) → Option Form
 behind_part m p low len = part m ((low + behind_base m p low) % m) p.stride (count_below len (behind_base m p low) p.stride (p.count - front_count m p low))
 
-pub cut_run-is : (m : ℕ) (p : Progression) (low len : ℕ) → cut_run m p low len ≡ join_parts m (front_part m p low len) (behind_part m p low len)
+pub cut_run-is : (m : ℕ) (p : Progression) (low len : ℕ)
+    → cut_run m p low len ≡ join_parts m (front_part m p low len) (behind_part m p low len)
 unfolding cut_run front_part behind_part
 cut_run-is m p low len = refl
 
@@ -183,7 +192,8 @@ front_fits m p low len (n, h) some =
     let fewer = count_less m (above m low p.base) p.stride p.count n.strides in
     fewer_fit m p.stride p.count _ (omega (arith, h)) n.strides n.once (omega (arith, few, fewer)) some
 
-behind_fits : (m : ℕ) (p : Progression) (low len : ℕ) → Low m p low → 1 ≤ count_below len (behind_base m p low) p.stride (p.count - front_count m p low)
+behind_fits : (m : ℕ) (p : Progression) (low len : ℕ) → Low m p low
+    → 1 ≤ count_below len (behind_base m p low) p.stride (p.count - front_count m p low)
     → Fits m p.stride (count_below len (behind_base m p low) p.stride (p.count - front_count m p low))
 behind_fits m p low len (n, h) some =
     let few = count_less len (behind_base m p low) p.stride (p.count - front_count m p low) n.strides in
@@ -197,7 +207,8 @@ pub behind_normal : (m : ℕ) (p : Progression) (low len : ℕ) → Low m p low 
 unfolding behind_part
 behind_normal m p low len l = part_normal m ((low + behind_base m p low) % m) p.stride (count_below len (behind_base m p low) p.stride (p.count - front_count m p low)) (behind_fits m p low len l)
 
-front_has : (m low len i v : ℕ) (p : Progression) → Low m p low → i < p.count → v ≡ (p.base + i * p.stride) % m → above m low p.base + i * p.stride < m
+front_has : (m low len i v : ℕ) (p : Progression) → Low m p low → i < p.count → v ≡ (p.base + i * p.stride) % m
+    → above m low p.base + i * p.stride < m
     → above m low p.base + i * p.stride < len → HasPart m v (front_part m p low len)
 unfolding front_part
 front_has m low len i v p (n, h) short is under inside =
@@ -227,7 +238,8 @@ behind_has m low len i v p (n, h) short vm over at inside =
     ∙ sym (base_mod m (low + behind_base m p low) ((i - front_count m p low) * p.stride)) in
     part_has m ((low + behind_base m p low) % m) p.stride _ v (behind_fits m p low len (n, h) (omega (arith, there))) (i - front_count m p low, there, is)
 
-cut_run_has : (m : ℕ) (p : Progression) (low len v : ℕ) → Low m p low → Has m (Run p) v → above m low v < len → HasPart m v (cut_run m p low len)
+cut_run_has : (m : ℕ) (p : Progression) (low len v : ℕ) → Low m p low → Has m (Run p) v → above m low v < len
+    → HasPart m v (cut_run m p low len)
 cut_run_has m p low len v l has inside =
     let n = l.0 in
     let run = steps_from m p.base p.stride p.count v has in
@@ -247,7 +259,8 @@ cut_run_has m p low len v l has inside =
 cut_run_normal : (m : ℕ) (p : Progression) (low len : ℕ) → Low m p low → IfThere (λ set. IsNormal m set) (cut_run m p low len)
 cut_run_normal m p low len l = rw (cut_run-is m p low len) (joined_normal m (front_part m p low len) (behind_part m p low len) (front_normal m p low len l) (behind_normal m p low len l))
 
-front_empty : (m : ℕ) (p : Progression) (low len : ℕ) → Low m p low → ((v : ℕ) → Has m (Run p) v → above m low v < len → ⊥) → front_part m p low len ≡ None
+front_empty : (m : ℕ) (p : Progression) (low len : ℕ) → Low m p low
+    → ((v : ℕ) → Has m (Run p) v → above m low v < len → ⊥) → front_part m p low len ≡ None
 unfolding front_part
 front_empty m p low len (n, h) nobody = part-none m p.base p.stride _ (elim (cases_eq (count_below len (above m low p.base) p.stride (front_count m p low)) 0) [
   | inl none ↦ none
@@ -258,7 +271,8 @@ front_empty m p low len (n, h) nobody = part-none m p.base p.stride _ (elim (cas
       (omega (arith, number_seen m low 0 p h n.below, mod_low (above m low p.base + 0 * p.stride) m first.1, here.1)))
 ])
 
-behind_empty : (m : ℕ) (p : Progression) (low len : ℕ) → Low m p low → ((v : ℕ) → Has m (Run p) v → above m low v < len → ⊥) → behind_part m p low len ≡ None
+behind_empty : (m : ℕ) (p : Progression) (low len : ℕ) → Low m p low
+    → ((v : ℕ) → Has m (Run p) v → above m low v < len → ⊥) → behind_part m p low len ≡ None
 unfolding behind_part
 behind_empty m p low len (n, h) nobody = part-none m ((low + behind_base m p low) % m) p.stride _
     (elim (cases_eq (count_below len (behind_base m p low) p.stride (p.count - front_count m p low)) 0) [
@@ -279,7 +293,8 @@ listed : (ys : List ℕ) (v m : ℕ) → IsIn v ys → (set : Form) × (list_or_
 listed [] v m i = absurd i
 listed (y ∷ ys) v m i = (Values (y ∷ ys), refl, Contains_from_in (y ∷ ys) v i)
 
-pub cut_has : (m : ℕ) (set : Form) (low len v : ℕ) → IsNormal m set → low < m → Has m set v → above m low v < len → HasPart m v (cut m set low len)
+pub cut_has : (m : ℕ) (set : Form) (low len v : ℕ) → IsNormal m set → low < m → Has m set v → above m low v < len
+    → HasPart m v (cut m set low len)
 unfolding cut
 cut_has m (Values xs) low len v n h has inside =
     let i = filtered_in (λ v. ltb (above m low v) len) v xs (in_from_Contains xs v has) (lt-ltb (above m low v) len inside) in
@@ -292,10 +307,12 @@ cut_normal m (Values xs) low len n h = list_there (filter (λ v. ltb (above m lo
     (λ some. (some, (let less = filtered_length (λ v. ltb (above m low v) len) xs in omega (arith, less, n.1)), filtered_ascends (λ v. ltb (above m low v) len) 0 m xs n.2))
 cut_normal m (Run p) low len n h = cut_run_normal m p low len (n, h)
 
-pub cut_none : (m : ℕ) (set : Form) (low len v : ℕ) → IsNormal m set → low < m → cut m set low len ≡ None → Has m set v → above m low v < len → ⊥
+pub cut_none : (m : ℕ) (set : Form) (low len v : ℕ) → IsNormal m set → low < m → cut m set low len ≡ None → Has m set v
+    → above m low v < len → ⊥
 cut_none m set low len v n h none has inside = let found = cut_has m set low len v n h has inside in cc (none, found.1)
 
-pub none_cut : (m : ℕ) (set : Form) (low len : ℕ) → IsNormal m set → low < m → ((v : ℕ) → Has m set v → above m low v < len → ⊥) → cut m set low len ≡ None
+pub none_cut : (m : ℕ) (set : Form) (low len : ℕ) → IsNormal m set → low < m
+    → ((v : ℕ) → Has m set v → above m low v < len → ⊥) → cut m set low len ≡ None
 unfolding cut
 none_cut m (Values xs) low len n h nobody = none_from_list (filter (λ v. ltb (above m low v) len) xs)
     (λ v i. let found = in_filtered (λ v. ltb (above m low v) len) v xs i in nobody v (Contains_from_in xs v found.0) (ltb-true (above m low v) len found.1))
@@ -304,22 +321,28 @@ none_cut m (Run p) low len n h nobody = cut_run-is m p low len ∙ none_joined m
 
 -- ---- as the code finds them
 
-pub count_is-most : (end base stride count most : ℕ) → base < end → most ≡ (end - 1 - base) / stride → most < count → most + 1 ≡ count_below end base stride count
+pub count_is-most : (end base stride count most : ℕ) → base < end → most ≡ (end - 1 - base) / stride → most < count
+    → most + 1 ≡ count_below end base stride count
 count_is-most end base stride count most h is low = rw (count_below-some end base stride count h, ← is) (elim (cases_lt (most + 1) count) [
   | inl under ↦ rw (lt-ltb (most + 1) count under) refl
   | inr at ↦ rw (le-ltb (most + 1) count at) (omega arith)
 ])
 
-pub count_is-all : (end base stride count most : ℕ) → base < end → most ≡ (end - 1 - base) / stride → count ≤ most → count ≡ count_below end base stride count
+pub count_is-all : (end base stride count most : ℕ) → base < end → most ≡ (end - 1 - base) / stride → count ≤ most
+    → count ≡ count_below end base stride count
 count_is-all end base stride count most h is high = rw (count_below-some end base stride count h, ← is) (let over : count ≤ most + 1 = omega arith in rw (le-ltb (most + 1) count over) refl)
 
-pub cut_made : (m low len base front turned near far : ℕ) (p : Progression) (first second : Option Form) → base ≡ above m low p.base → front ≡ count_below m base p.stride p.count
-    → turned ≡ base + front * p.stride - m → near ≡ count_below len base p.stride front → far ≡ count_below len turned p.stride (p.count - front)
-    → first ≡ part m p.base p.stride near → second ≡ part m ((low + turned) % m) p.stride far → join_parts m first second ≡ cut_run m p low len
+pub cut_made : (m low len base front turned near far : ℕ) (p : Progression) (first second : Option Form)
+    → base ≡ above m low p.base → front ≡ count_below m base p.stride p.count
+    → turned ≡ base + front * p.stride - m → near ≡ count_below len base p.stride front
+    → far ≡ count_below len turned p.stride (p.count - front)
+    → first ≡ part m p.base p.stride near → second ≡ part m ((low + turned) % m) p.stride far
+    → join_parts m first second ≡ cut_run m p low len
 unfolding cut_run
 cut_made m low len base front turned near far p first second a b c d e f g = cc
 
-pub cut-list : (m : ℕ) (set : Form) (xs kept : List ℕ) (low len : ℕ) → set ≡ Values xs → kept ≡ filter (λ v. ltb (above m low v) len) xs → list_or_none kept ≡ cut m set low len
+pub cut-list : (m : ℕ) (set : Form) (xs kept : List ℕ) (low len : ℕ) → set ≡ Values xs
+    → kept ≡ filter (λ v. ltb (above m low v) len) xs → list_or_none kept ≡ cut m set low len
 unfolding cut
 cut-list m set xs kept low len is k = rw is (ap list_or_none k)
 

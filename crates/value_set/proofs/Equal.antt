@@ -36,7 +36,8 @@ removed_keeps v w (x ∷ xs) apart h = elim (cases_eq x v) [
   | inr other ↦ rw (ne_eqb x v other) (elim h [ inl e ↦ inl e | inr rest ↦ inr (removed_keeps v w xs apart rest) ])
 ]
 
-room_for : (n : ℕ) (f : ℕ → ℕ) (xs : List ℕ) → ((i : ℕ) → i < n → IsIn (f i) xs) → ((i j : ℕ) → i < j → j < n → f i ≡ f j → ⊥) → n ≤ length xs
+room_for : (n : ℕ) (f : ℕ → ℕ) (xs : List ℕ) → ((i : ℕ) → i < n → IsIn (f i) xs)
+    → ((i j : ℕ) → i < j → j < n → f i ≡ f j → ⊥) → n ≤ length xs
 room_for zero f xs there apart = omega arith
 room_for (suc n) f xs there apart =
     let rest = room_for n f (remove (f n) xs) (λ i h. removed_keeps (f n) (f i) xs (apart i n h (omega arith)) (there i (omega arith))) (λ i j h k. apart i j h (omega arith)) in
@@ -52,7 +53,8 @@ run_apart m p i j n h k e =
     let pos = n.strides in
     omega (arith, same, step, pos)
 
-pub run_over_list : (m : ℕ) (p : Progression) (xs : List ℕ) → IsNormalRun m p.base p.stride p.count → Includes m (Values xs) (Run p) → p.count ≤ length xs
+pub run_over_list : (m : ℕ) (p : Progression) (xs : List ℕ) → IsNormalRun m p.base p.stride p.count
+    → Includes m (Values xs) (Run p) → p.count ≤ length xs
 run_over_list m p xs n inside = room_for p.count (λ i. (p.base + i * p.stride) % m) xs
     (λ i h. in_from_Contains xs _ (inside _ (steps_has m p.base p.stride p.count _ (i, h, refl))))
     (λ i j h k. run_apart m p i j n h k)
@@ -83,7 +85,8 @@ closed m o d c pos low some once fits = elim fits.2 [
       inr (round.1, ap (λ (k : ℕ). k * d) e ∙ whole)
 ]
 
-same_base : (m : ℕ) (p q : Progression) → IsNormalRun m p.base p.stride p.count → IsNormalRun m q.base q.stride q.count → p.stride ≡ q.stride → p.count ≡ q.count
+same_base : (m : ℕ) (p q : Progression) → IsNormalRun m p.base p.stride p.count → IsNormalRun m q.base q.stride q.count
+    → p.stride ≡ q.stride → p.count ≡ q.count
     → Fitting m (above m q.base p.base) p.stride p.count p.stride ((p.count - 1) * p.stride) → p.base ≡ q.base
 same_base m p q n k strides counts fits =
     let pos : 0 < m = (let b = n.below in omega (arith, b)) in
@@ -100,7 +103,8 @@ same_base m p q n k strides counts fits =
           sym (mod_low p.base p.stride small) ∙ ap (λ (w : ℕ). w % p.stride) (sym back) ∙ mod-mod_of_dvd p.stride (q.base + above m q.base p.base) whole.0 ∙ step ∙ mod_low q.base p.stride small_too
     ]
 
-same_runs : (m : ℕ) (p q : Progression) → IsNormalRun m p.base p.stride p.count → IsNormalRun m q.base q.stride q.count → Includes m (Run q) (Run p) → Includes m (Run p) (Run q) → Run p ≡ Run q
+same_runs : (m : ℕ) (p q : Progression) → IsNormalRun m p.base p.stride p.count → IsNormalRun m q.base q.stride q.count
+    → Includes m (Run q) (Run p) → Includes m (Run p) (Run q) → Run p ≡ Run q
 same_runs m p q n k to back =
     let pos : 0 < m = (let b = n.below in omega (arith, b)) in
     let fits = runs_fit m p q (above m q.base p.base) n k refl to in

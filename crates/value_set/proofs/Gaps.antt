@@ -37,7 +37,8 @@ least_first least m [] a here all = absurd here
 least_first least m (x ∷ xs) a (inl e) all = e
 least_first least m (x ∷ xs) a (inr i) all = let low = Ascends-in (x + 1) m least xs a.2 i in let high = all x (inl refl) in omega (arith, low.0, high)
 
-greatest_last : (low m most x : ℕ) (xs : List ℕ) → Ascends low m (x ∷ xs) → IsIn most (x ∷ xs) → ((v : ℕ) → IsIn v (x ∷ xs) → v ≤ most) → get_or (x ∷ xs) (length xs) 0 ≡ most
+greatest_last : (low m most x : ℕ) (xs : List ℕ) → Ascends low m (x ∷ xs) → IsIn most (x ∷ xs)
+    → ((v : ℕ) → IsIn v (x ∷ xs) → v ≤ most) → get_or (x ∷ xs) (length xs) 0 ≡ most
 greatest_last low m most x [] a (inl e) all = e
 greatest_last low m most x [] a (inr i) all = absurd i
 greatest_last low m most x (y ∷ ys) a (inl e) all = let next = all y (inr (inl refl)) in absurd (omega (arith, next, e, a.2.0))
@@ -103,7 +104,8 @@ greatest_in (x ∷ xs) h = elim (fold_in greater one_greater 0 (x ∷ xs)) [
 pub greatest_below : (m : ℕ) (xs : List ℕ) → 1 ≤ length xs → ((v : ℕ) → IsIn v xs → v < m) → fold greater 0 xs < m
 greatest_below m xs h below = below (fold greater 0 xs) (greatest_in xs h)
 
-pub from_around : (m : ℕ) (xs : List ℕ) (gap : Gap) → 1 ≤ length xs → gap ≡ record { base = get_or xs 0 0; width = get_or xs 0 0 + m - get_or xs (length xs - 1) 0; previous = get_or xs 0 0 }
+pub from_around : (m : ℕ) (xs : List ℕ) (gap : Gap) → 1 ≤ length xs
+    → gap ≡ record { base = get_or xs 0 0; width = get_or xs 0 0 + m - get_or xs (length xs - 1) 0; previous = get_or xs 0 0 }
     → decided gap (drop 1 xs) ≡ hull_base m xs
 from_around m xs gap h is = ap (λ (g : Gap). decided g (drop 1 xs)) is ∙ sym (hull_base-from m xs h)
 
@@ -111,7 +113,8 @@ from_around m xs gap h is = ap (λ (g : Gap). decided g (drop 1 xs)) is ∙ sym 
 from_first : (m x last : ℕ) (xs : List ℕ) → last < x + m → behind_widest x (x + m - last) x (x ∷ xs) ≡ behind_widest x (x + m - last) x xs
 from_first m x last xs h = widest-narrow x (x + m - last) x x xs (omega arith)
 
-pub from_ends : (m : ℕ) (xs : List ℕ) (gap : Gap) → 1 ≤ length xs → Ascends 0 m xs → gap ≡ record { base = get_or xs 0 0; width = get_or xs 0 0 + m - get_or xs (length xs - 1) 0; previous = get_or xs 0 0 }
+pub from_ends : (m : ℕ) (xs : List ℕ) (gap : Gap) → 1 ≤ length xs → Ascends 0 m xs
+    → gap ≡ record { base = get_or xs 0 0; width = get_or xs 0 0 + m - get_or xs (length xs - 1) 0; previous = get_or xs 0 0 }
     → IsIn (get_or xs (length xs - 1) 0) xs
     → (decided gap xs ≡ hull_base m xs) × Ascends gap.previous m xs
 from_ends m [] gap h a is i = absurd (omega arith)
@@ -122,7 +125,8 @@ from_ends m (x ∷ xs) gap h a is i =
       (omega (arith, first), a.1, a.2),
     )
 
-pub around_list : (m : ℕ) (xs : List ℕ) (gap : Gap) → 1 ≤ length xs → m ≤ 65536 → 1 ≤ length (ascending xs) → ((v : ℕ) → IsIn v xs → v < m) → Ascends 0 m (ascending xs)
+pub around_list : (m : ℕ) (xs : List ℕ) (gap : Gap) → 1 ≤ length xs → m ≤ 65536 → 1 ≤ length (ascending xs)
+    → ((v : ℕ) → IsIn v xs → v < m) → Ascends 0 m (ascending xs)
     → gap ≡ record { base = fold lesser 65535 xs; width = fold lesser 65535 xs + m - fold greater 0 xs; previous = fold lesser 65535 xs }
     → (decided gap (ascending xs) ≡ hull_base m (ascending xs)) × Ascends gap.previous m (ascending xs)
 around_list m xs gap h small some below a is =
@@ -187,7 +191,8 @@ pushed {X} f list i v item h is value =
     ap (λ (xs : List X). map f xs) (take_more list i item h) ∙ map-append f (take i list) (get_or list i item ∷ [])
     ∙ ap (λ (x : X). map f (take i list) ++ f x ∷ []) (sym is) ∙ ap (λ (n : ℕ). map f (take i list) ++ n ∷ []) (sym value)
 
-pub marked_here : (low v place : ℕ) (xs : List ℕ) (marked : List Bool) → HasMarks low xs marked → length marked ≡ 4096 → v ≡ low + place → place < 4096 → HasMarks low (xs ++ v ∷ []) (set marked place true)
+pub marked_here : (low v place : ℕ) (xs : List ℕ) (marked : List Bool) → HasMarks low xs marked → length marked ≡ 4096
+    → v ≡ low + place → place < 4096 → HasMarks low (xs ++ v ∷ []) (set marked place true)
 marked_here low v place xs marked marks size is short k below = elim (cases_eq k place) [
   | inl same ↦ let e : v ≡ low + k = omega arith in (
     λ t. subst (λ (n : ℕ). Contains (xs ++ v ∷ []) n) e (Contains-push xs v),
@@ -199,7 +204,8 @@ marked_here low v place xs marked marks size is short k below = elim (cases_eq k
   )
 ]
 
-pub marked_elsewhere : (low v : ℕ) (xs : List ℕ) (marked : List Bool) → HasMarks low xs marked → (v < low) ⊎ (low + 4096 ≤ v) → HasMarks low (xs ++ v ∷ []) marked
+pub marked_elsewhere : (low v : ℕ) (xs : List ℕ) (marked : List Bool) → HasMarks low xs marked
+    → (v < low) ⊎ (low + 4096 ≤ v) → HasMarks low (xs ++ v ∷ []) marked
 marked_elsewhere low v xs marked marks far k below = (
   λ t. Contains-append_left xs (v ∷ []) (low + k) ((marks k below).0 t),
   λ t. (marks k below).1 (elim (Contains-push_cases xs v (low + k) t) [
@@ -229,7 +235,8 @@ few_enough held [] = omega arith
 few_enough held (x ∷ xs) = omega (arith, few_enough (put x held) xs, put_wider x held)
 
 -- what has come makes more than there was
-pub many_so_far : {X : Type 0} (f : X → ℕ) (i : ℕ) (list : List X) → length (ascending (map f (take i list))) ≤ length (ascending (map f list))
+pub many_so_far : {X : Type 0} (f : X → ℕ) (i : ℕ) (list : List X)
+    → length (ascending (map f (take i list))) ≤ length (ascending (map f list))
 many_so_far {X} f i list =
     let split : map f list ≡ map f (take i list) ++ map f (drop i list) = ap (λ (xs : List X). map f xs) (sym (take-append-drop i list)) ∙ map-append f (take i list) (drop i list) in
     let whole : ascending (map f list) ≡ put_all (ascending (map f (take i list))) (map f (drop i list)) =
@@ -254,7 +261,8 @@ stays_one : (m from : ℕ) (xs : List ℕ) → fold (λ g v. gcd g (above m from
 stays_one m from [] = refl
 stays_one m from (x ∷ xs) = ap (λ (g : ℕ). fold (λ g v. gcd g (above m from v)) g xs) (gcd_one (above m from x)) ∙ stays_one m from xs
 
-pub one_already : {X : Type 0} (f : X → ℕ) (m from i stride : ℕ) (list : List X) → stride ≡ common_stride m from (map f (take i list)) → stride ≡ 1
+pub one_already : {X : Type 0} (f : X → ℕ) (m from i stride : ℕ) (list : List X)
+    → stride ≡ common_stride m from (map f (take i list)) → stride ≡ 1
     → 1 ≡ common_stride m from (map f list)
 one_already {X} f m from i stride list so_far is =
     let split : map f list ≡ map f (take i list) ++ map f (drop i list) = ap (λ (xs : List X). map f xs) (sym (take-append-drop i list)) ∙ map-append f (take i list) (drop i list) in
@@ -269,7 +277,8 @@ All_below low m (x ∷ xs) a zero d h = a.1
 All_below low m (x ∷ xs) a (suc i) d h = All_below (x + 1) m xs a.2 i d (omega arith)
 
 -- a marked number comes next
-pub next_marked : (low place m : ℕ) (numbers : List ℕ) (marked : List Bool) → Ascends 0 m (ascending numbers) → HasMarks low numbers marked → place < 4096 → get_or marked place false ≡ true
+pub next_marked : (low place m : ℕ) (numbers : List ℕ) (marked : List Bool) → Ascends 0 m (ascending numbers)
+    → HasMarks low numbers marked → place < 4096 → get_or marked place false ≡ true
     → onward (low + place) (ascending numbers) ≡ (low + place) ∷ onward (low + (place + 1)) (ascending numbers)
 next_marked low place m numbers marked a marks h t =
     let e : low + place + 1 ≡ low + (place + 1) = omega arith in
@@ -277,7 +286,8 @@ next_marked low place m numbers marked a marks h t =
     ∙ ap (λ (n : ℕ). (low + place) ∷ onward n (ascending numbers)) e
 
 -- an unmarked one doesn't
-pub next_unmarked : (low place m : ℕ) (numbers : List ℕ) (marked : List Bool) → Ascends 0 m (ascending numbers) → HasMarks low numbers marked → place < 4096 → get_or marked place false ≡ false
+pub next_unmarked : (low place m : ℕ) (numbers : List ℕ) (marked : List Bool) → Ascends 0 m (ascending numbers)
+    → HasMarks low numbers marked → place < 4096 → get_or marked place false ≡ false
     → onward (low + place) (ascending numbers) ≡ onward (low + (place + 1)) (ascending numbers)
 next_unmarked low place m numbers marked a marks h t =
     let e : low + place + 1 ≡ low + (place + 1) = omega arith in
@@ -286,7 +296,8 @@ next_unmarked low place m numbers marked a marks h t =
 
 -- ---- strides and distances of a list in any order
 
-strides_greatest : (m b g d : ℕ) (xs : List ℕ) → d ∣ g → ((v : ℕ) → IsIn v xs → d ∣ above m b v) → d ∣ fold (λ g v. gcd g (above m b v)) g xs
+strides_greatest : (m b g d : ℕ) (xs : List ℕ) → d ∣ g → ((v : ℕ) → IsIn v xs → d ∣ above m b v)
+    → d ∣ fold (λ g v. gcd g (above m b v)) g xs
 strides_greatest m b g d [] h all = h
 strides_greatest m b g d (x ∷ xs) h all = strides_greatest m b (gcd g (above m b x)) d xs ((gcd_is g (above m b x)).2 d h (all x (inl refl))) (λ v i. all v (inr i))
 
@@ -299,7 +310,8 @@ stride_in_order m b xs = dvd_antisymm (strides_within m b xs (ascending xs) (λ 
 greater_least : (a b n : ℕ) → a ≤ n → b ≤ n → greater a b ≤ n
 greater_least a b n h k = elim (cases_lt a b) [ inl low ↦ rw (lt-ltb a b low) k | inr high ↦ rw (le-ltb a b high) h ]
 
-farthest_least : (m b r n : ℕ) (xs : List ℕ) → r ≤ n → ((v : ℕ) → IsIn v xs → above m b v ≤ n) → fold (λ most v. greater most (above m b v)) r xs ≤ n
+farthest_least : (m b r n : ℕ) (xs : List ℕ) → r ≤ n → ((v : ℕ) → IsIn v xs → above m b v ≤ n)
+    → fold (λ most v. greater most (above m b v)) r xs ≤ n
 farthest_least m b r n [] h all = h
 farthest_least m b r n (x ∷ xs) h all = farthest_least m b (greater r (above m b x)) n xs (greater_least r (above m b x) n h (all x (inl refl))) (λ v i. all v (inr i))
 
@@ -310,7 +322,8 @@ pub farthest_in_order : (m b : ℕ) (xs : List ℕ) → farthest m b xs ≡ fart
 farthest_in_order m b xs = omega (arith, farthest_within m b xs (ascending xs) (λ v i. in_ascending v xs i), farthest_within m b (ascending xs) xs (λ v i. put_all_has v [] xs i))
 
 -- the hull of a list's numbers, made from the list as it is
-pub hull_of_list : (m base stride far count : ℕ) (xs : List ℕ) → base ≡ hull_base m (ascending xs) → stride ≡ common_stride m base xs → far ≡ farthest m base xs
+pub hull_of_list : (m base stride far count : ℕ) (xs : List ℕ) → base ≡ hull_base m (ascending xs)
+    → stride ≡ common_stride m base xs → far ≡ farthest m base xs
     → count ≡ far / stride + 1 → let made : Progression = record { base = base; stride = stride; count = count } in made ≡ hull m (ascending xs)
 hull_of_list m base stride far count xs b s f k =
     hull_made m base stride far count (ascending xs) b (s ∙ stride_in_order m base xs) (f ∙ farthest_in_order m base xs) k
@@ -324,5 +337,6 @@ pub list_gathered : (m base stride count : ℕ) (xs : List ℕ) → let made : P
     → 16 < length (ascending xs) → make m base stride count ≡ gather m xs
 list_gathered m base stride count xs is h = ap (λ (p : Progression). make m p.base p.stride p.count) is ∙ sym (set_of-many m (ascending xs) h)
 
-pub onward_none : (from m best : ℕ) (xs : List ℕ) (gap : Gap) → m ≤ from → Ascends 0 m xs → decided gap (onward from xs) ≡ best → gap.base ≡ best
+pub onward_none : (from m best : ℕ) (xs : List ℕ) (gap : Gap) → m ≤ from → Ascends 0 m xs
+    → decided gap (onward from xs) ≡ best → gap.base ≡ best
 onward_none from m best xs gap h a is = sym (widest-nil gap.base gap.width gap.previous) ∙ ap (λ (ys : List ℕ). decided gap ys) (sym (onward_end from 0 m xs h a)) ∙ is

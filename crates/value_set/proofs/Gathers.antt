@@ -44,13 +44,15 @@ hull_base_below m xs h a = (Ascends-in 0 m (hull_base m xs) xs a (hull_base_in m
 
 -- ---- a search among ascending numbers
 
-pub placed : (m v place : ℕ) (xs ys : List ℕ) → xs ≡ ys → Ascends 0 m ys → IsBinarySearchResult (λ y. nat_cmp y v) xs (Err place) → insert ys place v ≡ put v ys
+pub placed : (m v place : ℕ) (xs ys : List ℕ) → xs ≡ ys → Ascends 0 m ys
+    → IsBinarySearchResult (λ y. nat_cmp y v) xs (Err place) → insert ys place v ≡ put v ys
 placed m v place xs ys same a h =
     let h' : IsBinarySearchResult (λ y. nat_cmp y v) ys (Err place) = subst (λ (zs : List ℕ). IsBinarySearchResult (λ y. nat_cmp y v) zs (Err place)) same h in
     let found = searched ys v (Err place) h' (λ i j l k. Ascends-order 0 m i j ys a l k) in
     put_insert v place ys found.0 found.1 found.2
 
-pub there : (m v place : ℕ) (xs ys : List ℕ) → xs ≡ ys → Ascends 0 m ys → IsBinarySearchResult (λ y. nat_cmp y v) xs (Ok place) → ys ≡ put v ys
+pub there : (m v place : ℕ) (xs ys : List ℕ) → xs ≡ ys → Ascends 0 m ys
+    → IsBinarySearchResult (λ y. nat_cmp y v) xs (Ok place) → ys ≡ put v ys
 there m v place xs ys same a h =
     let h' : IsBinarySearchResult (λ y. nat_cmp y v) ys (Ok place) = subst (λ (zs : List ℕ). IsBinarySearchResult (λ y. nat_cmp y v) zs (Ok place)) same h in
     let found = searched ys v (Ok place) h' (λ i j l k. Ascends-order 0 m i j ys a l k) in
@@ -63,7 +65,8 @@ put_behind m v xs a last = sym (put_above_all v xs (λ w i.
     let high = Ascends-order 0 m at.0 (length xs - 1) xs a (omega (arith, at.1)) (omega (arith, at.1)) in
     omega (arith, high, last (omega (arith, at.1)), get_or_default_zero xs at.0 w at.1, at.2)))
 
-pub behind : (m v : ℕ) (xs ys : List ℕ) → Ascends 0 m xs → ys ≡ xs → (1 ≤ length ys → get_or ys (length ys - 1) 0 < v) → xs ++ v ∷ [] ≡ put v xs
+pub behind : (m v : ℕ) (xs ys : List ℕ) → Ascends 0 m xs → ys ≡ xs → (1 ≤ length ys → get_or ys (length ys - 1) 0 < v)
+    → xs ++ v ∷ [] ≡ put v xs
 behind m v xs ys a same last = put_behind m v xs a (subst (λ (zs : List ℕ). 1 ≤ length zs → get_or zs (length zs - 1) 0 < v) same last)
 
 pub put_ascends : (m v : ℕ) (xs ys : List ℕ) → ys ≡ put v xs → v < m → Ascends 0 m xs → Ascends 0 m ys
@@ -85,7 +88,8 @@ Ascends-wider low m n (x ∷ xs) h a = (a.0, omega arith, Ascends-wider (x + 1) 
 pub steps_room : (m base stride count : ℕ) → length (ascending (steps m base stride count)) ≤ count
 steps_room m base stride count = omega (arith, length-put_all [] (steps m base stride count), length-steps m base stride count)
 
-pub one_more_step : (m base stride count : ℕ) → ascending (steps m base stride (count + 1)) ≡ put ((base + count * stride) % m) (ascending (steps m base stride count))
+pub one_more_step : (m base stride count : ℕ)
+    → ascending (steps m base stride (count + 1)) ≡ put ((base + count * stride) % m) (ascending (steps m base stride count))
 one_more_step m base stride count = ap (λ (xs : List ℕ). ascending xs) (steps_more m base stride count) ∙ put_all-push [] (steps m base stride count) ((base + count * stride) % m)
 
 -- ---- the widest gap
@@ -104,12 +108,14 @@ Ascends-rest m (x ∷ xs) h a = Ascends-lower (x + 1) x m xs (omega arith) a.2
 pub drop_at : (xs : List ℕ) (i : ℕ) → i < length xs → drop i xs ≡ get_or xs i 0 ∷ drop (i + 1) xs
 drop_at xs i h = drop-cons xs i 0 h ∙ ap (λ (n : ℕ). get_or xs i 0 ∷ drop n xs) (let e : suc i ≡ i + 1 = omega arith in e)
 
-pub Ascends-next : (low m i : ℕ) (xs : List ℕ) → i < length xs → Ascends low m (drop i xs) → (low ≤ get_or xs i 0) × (get_or xs i 0 < m) × Ascends (get_or xs i 0) m (drop (i + 1) xs)
+pub Ascends-next : (low m i : ℕ) (xs : List ℕ) → i < length xs → Ascends low m (drop i xs)
+    → (low ≤ get_or xs i 0) × (get_or xs i 0 < m) × Ascends (get_or xs i 0) m (drop (i + 1) xs)
 Ascends-next low m i xs h a =
     let here = subst (λ (ys : List ℕ). Ascends low m ys) (drop_at xs i h) a in
     (here.0, here.1, Ascends-lower (get_or xs i 0 + 1) (get_or xs i 0) m (drop (i + 1) xs) (omega arith) here.2)
 
-pub gap_wider : (best width previous i base gap : ℕ) (xs : List ℕ) → i < length xs → width < get_or xs i 0 - previous → base ≡ get_or xs i 0 → gap ≡ get_or xs i 0 - previous
+pub gap_wider : (best width previous i base gap : ℕ) (xs : List ℕ) → i < length xs → width < get_or xs i 0 - previous
+    → base ≡ get_or xs i 0 → gap ≡ get_or xs i 0 - previous
     → behind_widest base gap (get_or xs i 0) (drop (i + 1) xs) ≡ behind_widest best width previous (drop i xs)
 gap_wider best width previous i base gap xs h wider base_is gap_is =
     ap (λ (n : ℕ). behind_widest n gap (get_or xs i 0) (drop (i + 1) xs)) base_is
@@ -117,7 +123,8 @@ gap_wider best width previous i base gap xs h wider base_is gap_is =
     ∙ sym (widest-wider best width previous (get_or xs i 0) (drop (i + 1) xs) wider)
     ∙ ap (λ (ys : List ℕ). behind_widest best width previous ys) (sym (drop_at xs i h))
 
-pub gap_narrow : (best width previous i base gap : ℕ) (xs : List ℕ) → i < length xs → get_or xs i 0 - previous ≤ width → base ≡ best → gap ≡ width
+pub gap_narrow : (best width previous i base gap : ℕ) (xs : List ℕ) → i < length xs → get_or xs i 0 - previous ≤ width
+    → base ≡ best → gap ≡ width
     → behind_widest base gap (get_or xs i 0) (drop (i + 1) xs) ≡ behind_widest best width previous (drop i xs)
 gap_narrow best width previous i base gap xs h narrow base_is gap_is =
     ap (λ (n : ℕ). behind_widest n gap (get_or xs i 0) (drop (i + 1) xs)) base_is
@@ -137,10 +144,12 @@ steps_none m base stride = refl
 pub made_whole : (m b d c base : ℕ) → 16 < c → c * d ≡ m → base ≡ b % d → Run (record { base = base; stride = d; count = c }) ≡ make m b d c
 made_whole m b d c base h e is = ap (λ (n : ℕ). Run (record { base = n; stride = d; count = c })) is ∙ sym (make-whole m b d c h e)
 
-pub made_open : (m b d c base : ℕ) → 16 < c → (c * d ≡ m → ⊥) → base ≡ b % m → Run (record { base = base; stride = d; count = c }) ≡ make m b d c
+pub made_open : (m b d c base : ℕ) → 16 < c → (c * d ≡ m → ⊥) → base ≡ b % m
+    → Run (record { base = base; stride = d; count = c }) ≡ make m b d c
 made_open m b d c base h e is = ap (λ (n : ℕ). Run (record { base = n; stride = d; count = c })) is ∙ sym (make-open m b d c h e)
 
-pub hull_made : (m base stride far count : ℕ) (xs : List ℕ) → base ≡ hull_base m xs → stride ≡ common_stride m base xs → far ≡ farthest m base xs
+pub hull_made : (m base stride far count : ℕ) (xs : List ℕ) → base ≡ hull_base m xs → stride ≡ common_stride m base xs
+    → far ≡ farthest m base xs
     → count ≡ far / stride + 1 → let made : Progression = record { base = base; stride = stride; count = count } in made ≡ hull m xs
 unfolding hull
 hull_made m base stride far count xs b s f k =
@@ -149,7 +158,8 @@ hull_made m base stride far count xs b s f k =
     let k' : count ≡ farthest m (hull_base m xs) xs / common_stride m (hull_base m xs) xs + 1 = k ∙ ap (λ (n : ℕ). n / stride + 1) f' ∙ ap (λ (n : ℕ). farthest m (hull_base m xs) xs / n + 1) s' in
     cc (b, s', k')
 
-pub hull_spans : (m base stride far count : ℕ) (xs : List ℕ) → base ≡ hull_base m xs → stride ≡ common_stride m base xs → far ≡ farthest m base xs
+pub hull_spans : (m base stride far count : ℕ) (xs : List ℕ) → base ≡ hull_base m xs → stride ≡ common_stride m base xs
+    → far ≡ farthest m base xs
     → count ≡ far / stride + 1 → 1 ≤ length xs → Ascends 0 m xs → IsSpan m base stride count
 hull_spans m base stride far count xs b s f k h a =
     subst (λ (p : Progression). IsSpan m p.base p.stride p.count) (sym (hull_made m base stride far count xs b s f k)) (hull_is m xs h a)

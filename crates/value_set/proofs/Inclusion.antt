@@ -25,7 +25,8 @@ seen m b o d i h k =
 
 -- ---- the test is enough
 
-fitting_point : (m o d c g end i : ℕ) → o < m → 0 < d → (c - 1) * d < m → i < c → Fitting m o d c g end → (g ∣ (o + i * d) % m) × ((o + i * d) % m ≤ end)
+fitting_point : (m o d c g end i : ℕ) → o < m → 0 < d → (c - 1) * d < m → i < c → Fitting m o d c g end
+    → (g ∣ (o + i * d) % m) × ((o + i * d) % m ≤ end)
 fitting_point m o d c g end i low pos once short fits =
     let most : i * d ≤ (c - 1) * d = mul-le-mul_right {m = i} {n = c - 1} d (omega arith) in
     let whole : g ∣ o + i * d = dvd-add g fits.0 (dvd-mul_left_of_dvd g fits.1 i) in
@@ -62,7 +63,8 @@ included m b o d c e n v h low pos posn some once fits (i, short, is) =
 abbrev Points : (m o d c g end : ℕ) → Type 0
 Points m o d c g end = (i : ℕ) → i < c → (g ∣ (o + i * d) % m) × ((o + i * d) % m ≤ end)
 
-points : (m b o d c e n : ℕ) → b < m → o < m → (n - 1) * e < m → ((v : ℕ) → InRun m ((b + o) % m) d c v → InRun m b e n v) → Points m o d c e ((n - 1) * e)
+points : (m b o d c e n : ℕ) → b < m → o < m → (n - 1) * e < m
+    → ((v : ℕ) → InRun m ((b + o) % m) d c v → InRun m b e n v) → Points m o d c e ((n - 1) * e)
 points m b o d c e n h low once inside i short =
     let v = ((b + o) % m + i * d) % m in
     let found = run_offset m b e n v h once (inside v (i, short, refl)) in

@@ -44,7 +44,8 @@ pub test_fails : (m : ℕ) (smaller larger : Form) → (Includes m larger smalle
 test_fails m smaller larger h = elim (cases_Bool (is_within m smaller larger)) [ inl agreed ↦ absurd (h (includes_from_test m smaller larger agreed)) | inr refused ↦ refused ]
 
 -- an answer that tells inclusion is the test's
-pub tested : (m : ℕ) (smaller larger : Form) (answer : Bool) → (IsTrue answer ↔ Includes m larger smaller) → answer ≡ is_within m smaller larger
+pub tested : (m : ℕ) (smaller larger : Form) (answer : Bool) → (IsTrue answer ↔ Includes m larger smaller)
+    → answer ≡ is_within m smaller larger
 tested m smaller larger true h = sym (test_from_includes m smaller larger (h.0 refl))
 tested m smaller larger false h = sym (test_fails m smaller larger (λ includes. absurd (cc (h.1 includes))))
 
@@ -52,11 +53,13 @@ pub join-first : (m : ℕ) (first second : Form) → is_within m second first �
 unfolding join
 join-first m first second h = rw h refl
 
-pub join-second : (m : ℕ) (first second : Form) → is_within m second first ≡ false → is_within m first second ≡ true → join m first second ≡ second
+pub join-second : (m : ℕ) (first second : Form) → is_within m second first ≡ false → is_within m first second ≡ true
+    → join m first second ≡ second
 unfolding join
 join-second m first second h k = rw (h, k) refl
 
-pub join-neither : (m : ℕ) (first second : Form) → is_within m second first ≡ false → is_within m first second ≡ false → join m first second ≡ join_apart m first second
+pub join-neither : (m : ℕ) (first second : Form) → is_within m second first ≡ false → is_within m first second ≡ false
+    → join m first second ≡ join_apart m first second
 unfolding join
 join-neither m first second h k = rw (h, k) refl
 
@@ -114,14 +117,16 @@ at_multiple m b g end k v h low div short is =
     make_has m b g (end / g + 1) v (fits_to m g end low)
     (reached m b g end v h (omega (arith, is, here)) (subst (λ (w : ℕ). g ∣ w) (sym far) div) (omega (arith, far, short)))
 
-pub stretched_first : (m : ℕ) (p q : Progression) (v : ℕ) → IsRun m p → (candidate m p q).end < m → InSpan m p v → Has m (stretched m (candidate m p q)) v
+pub stretched_first : (m : ℕ) (p q : Progression) (v : ℕ) → IsRun m p → (candidate m p q).end < m → InSpan m p v
+    → Has m (stretched m (candidate m p q)) v
 stretched_first m p q v s low (i, short, is) =
     let most = mul-le-mul_right {m = i} {n = p.count - 1} p.stride (omega (arith, short)) in
     let e = candidate_base m p q in
     at_multiple m (candidate m p q).base (candidate m p q).stride (candidate m p q).end (i * p.stride) v (rw e s.below) low
     (dvd-mul_left_of_dvd _ (stride_first m p q) i) (omega (arith, most, end_first m p q)) (rw e is)
 
-pub stretched_second : (m : ℕ) (p q : Progression) (v : ℕ) → IsRun m p → IsRun m q → (candidate m p q).end < m → InSpan m q v → Has m (stretched m (candidate m p q)) v
+pub stretched_second : (m : ℕ) (p q : Progression) (v : ℕ) → IsRun m p → IsRun m q → (candidate m p q).end < m
+    → InSpan m q v → Has m (stretched m (candidate m p q)) v
 stretched_second m p q v s t low run =
     let found = rest_of m p q v s t run in
     let e = candidate_base m p q in
@@ -131,11 +136,13 @@ stretched_second m p q v s t low run =
 pub stretched_normal : (m : ℕ) (s : Stretch) → s.end < m → IsNormal m (stretched m s)
 stretched_normal m s low = make_normal m s.base s.stride (s.end / s.stride + 1) (fits_to m s.stride s.end low)
 
-class_first : (m : ℕ) (p q : Progression) (v : ℕ) → IsRun m p → InSpan m p v → Has m (class m (candidate m p q).base (candidate m p q).stride) v
+class_first : (m : ℕ) (p q : Progression) (v : ℕ) → IsRun m p → InSpan m p v
+    → Has m (class m (candidate m p q).base (candidate m p q).stride) v
 class_first m p q v s (i, short, is) = let e = candidate_base m p q in
     class_reached m (candidate m p q).base (candidate m p q).stride v (i * p.stride) (let b = s.below in omega (arith, b)) (rw e is) (dvd-mul_left_of_dvd _ (stride_first m p q) i)
 
-class_second : (m : ℕ) (p q : Progression) (v : ℕ) → IsRun m p → IsRun m q → InSpan m q v → Has m (class m (candidate m p q).base (candidate m p q).stride) v
+class_second : (m : ℕ) (p q : Progression) (v : ℕ) → IsRun m p → IsRun m q → InSpan m q v
+    → Has m (class m (candidate m p q).base (candidate m p q).stride) v
 class_second m p q v s t run = let found = rest_of m p q v s t run in let e = candidate_base m p q in
     class_reached m (candidate m p q).base (candidate m p q).stride v found.0 (let b = s.below in omega (arith, b)) (rw e found.3) found.2
 
@@ -144,7 +151,8 @@ class_second m p q v s t run = let found = rest_of m p q v s t run in let e = ca
 second_below : (m : ℕ) (one other : Stretch) → is_second m one other ≡ true → other.end < m
 second_below m one other h = elim (cases_lt other.end m) [ inl low ↦ low | inr high ↦ absurd (let e = le-leb m other.end high in cc (h, e)) ]
 
-pub choose_cases : (m : ℕ) (one other : Stretch) (P : Form → Type 0) → (other.end < m → P (stretched m other)) → (one.end < m → P (stretched m one))
+pub choose_cases : (m : ℕ) (one other : Stretch) (P : Form → Type 0) → (other.end < m → P (stretched m other))
+    → (one.end < m → P (stretched m one))
     → P (class m one.base one.stride) → P (choose m one other)
 unfolding choose
 choose_cases m one other P second first neither = elim (cases_Bool (is_second m one other)) [
@@ -169,13 +177,15 @@ join_spans_normal m p q pos = choose_cases m (candidate m p q) (candidate m q p)
 
 -- ---- the join
 
-pub few_cases : (xs ys : List ℕ) → ((length (ascending (xs ++ ys)) ≤ 16) × (few_together xs ys ≡ Some (ascending (xs ++ ys)))) ⊎ (few_together xs ys ≡ None)
+pub few_cases : (xs ys : List ℕ)
+    → ((length (ascending (xs ++ ys)) ≤ 16) × (few_together xs ys ≡ Some (ascending (xs ++ ys)))) ⊎ (few_together xs ys ≡ None)
 few_cases xs ys = elim (cases_lt 16 (length (ascending (xs ++ ys)))) [
   | inr few ↦ inl (few, rw (le-leb (length (ascending (xs ++ ys))) 16 few) refl)
   | inl many ↦ inr (rw (lt-leb (length (ascending (xs ++ ys))) 16 many) refl)
 ]
 
-pub apart-lists : (m : ℕ) (xs ys : List ℕ) → join_apart m (Values xs) (Values ys) ≡ values_or (few_together xs ys) (join_spans m (hull m xs) (hull m ys))
+pub apart-lists : (m : ℕ) (xs ys : List ℕ)
+    → join_apart m (Values xs) (Values ys) ≡ values_or (few_together xs ys) (join_spans m (hull m xs) (hull m ys))
 unfolding join_apart
 apart-lists m xs ys = refl
 
@@ -187,7 +197,8 @@ pub apart-run : (m : ℕ) (p : Progression) (second : Form) → join_apart m (Ru
 unfolding join_apart
 apart-run m p second = refl
 
-pub apart_cases : (m : ℕ) (first second : Form) (P : Form → Type 0) → ((xs ys : List ℕ) → first ≡ Values xs → second ≡ Values ys → length (ascending (xs ++ ys)) ≤ 16 → P (Values (ascending (xs ++ ys))))
+pub apart_cases : (m : ℕ) (first second : Form) (P : Form → Type 0)
+    → ((xs ys : List ℕ) → first ≡ Values xs → second ≡ Values ys → length (ascending (xs ++ ys)) ≤ 16 → P (Values (ascending (xs ++ ys))))
     → P (join_spans m (span m first) (span m second)) → P (join_apart m first second)
 apart_cases m (Values xs) (Values ys) P few spans = elim (few_cases xs ys) [
   | inl short ↦ rw (apart-lists m xs ys, short.1) (few xs ys refl refl short.0)
@@ -217,7 +228,8 @@ apart_normal m first second n k = apart_cases m first second (λ set. IsNormal m
     (ascending_some (xs ++ ys) (omega (arith, n'.0, length-append xs ys)), short, Ascends-put_all m [] (xs ++ ys) (lists_below m xs ys n'.2 k'.2) tt))
     (join_spans_normal m (span m first) (span m second) (modulus_positive m first n))
 
-pub join_cases : (m : ℕ) (first second : Form) (P : Form → Type 0) → (Includes m first second → P first) → (Includes m second first → P second)
+pub join_cases : (m : ℕ) (first second : Form) (P : Form → Type 0) → (Includes m first second → P first)
+    → (Includes m second first → P second)
     → P (join_apart m first second) → P (join m first second)
 join_cases m first second P one other neither = elim (cases_Bool (is_within m second first)) [
   | inl agreed ↦ rw (join-first m first second agreed) (one (includes_from_test m second first agreed))
@@ -245,7 +257,8 @@ class-is m b d g e = ap (λ (n : ℕ). make m (b % n) n (m / n)) e
 pub divisor_small : (m d : ℕ) → 0 < m → gcd d m ≤ m
 divisor_small m d pos = le_of_dvd {m = gcd d m} {n = m} pos (gcd_right d m)
 
-pub candidate_made : (m : ℕ) (p q : Progression) (offset strides stride end first rest : ℕ) → offset ≡ above m p.base q.base → strides ≡ gcd p.stride q.stride
+pub candidate_made : (m : ℕ) (p q : Progression) (offset strides stride end first rest : ℕ)
+    → offset ≡ above m p.base q.base → strides ≡ gcd p.stride q.stride
     → stride ≡ gcd strides offset → first ≡ reach p → rest ≡ reach q → end ≡ greater first (offset + rest)
     → let made : Stretch = record { base = p.base; stride = stride; end = end } in made ≡ candidate m p q
 unfolding candidate
@@ -262,17 +275,20 @@ pub choose-first : (m : ℕ) (one other : Stretch) → is_second m one other ≡
 unfolding choose
 choose-first m one other h low = rw (h, lt-ltb one.end m low) refl
 
-pub choose-neither : (m : ℕ) (one other : Stretch) → is_second m one other ≡ false → m ≤ one.end → choose m one other ≡ class m one.base one.stride
+pub choose-neither : (m : ℕ) (one other : Stretch) → is_second m one other ≡ false → m ≤ one.end
+    → choose m one other ≡ class m one.base one.stride
 unfolding choose
 choose-neither m one other h high = rw (h, le-ltb one.end m high) refl
 
-pub choose_same : (m : ℕ) (p q : Progression) (one other : Stretch) → one ≡ candidate m p q → other ≡ candidate m q p → choose m one other ≡ join_spans m p q
+pub choose_same : (m : ℕ) (p q : Progression) (one other : Stretch) → one ≡ candidate m p q → other ≡ candidate m q p
+    → choose m one other ≡ join_spans m p q
 choose_same m p q one other a b = ap (λ (s : Stretch). choose m s other) a ∙ ap (λ (s : Stretch). choose m (candidate m p q) s) b
 
 pub values_found : (m : ℕ) (xs ys values : List ℕ) → Some values ≡ few_together xs ys → Values values ≡ join_apart m (Values xs) (Values ys)
 values_found m xs ys values h = ap (λ (found : Option (List ℕ)). values_or found (join_spans m (hull m xs) (hull m ys))) h ∙ sym (apart-lists m xs ys)
 
-pub values_missing : (m : ℕ) (xs ys : List ℕ) → None ≡ few_together xs ys → join_spans m (hull m xs) (hull m ys) ≡ join_apart m (Values xs) (Values ys)
+pub values_missing : (m : ℕ) (xs ys : List ℕ) → None ≡ few_together xs ys
+    → join_spans m (hull m xs) (hull m ys) ≡ join_apart m (Values xs) (Values ys)
 values_missing m xs ys h = ap (λ (found : Option (List ℕ)). values_or found (join_spans m (hull m xs) (hull m ys))) h ∙ sym (apart-lists m xs ys)
 
 pub hulls_same : (m : ℕ) (xs ys cs ds : List ℕ) (p q : Progression) → cs ≡ xs → ds ≡ ys → p ≡ hull m cs → q ≡ hull m ds
@@ -280,9 +296,11 @@ pub hulls_same : (m : ℕ) (xs ys cs ds : List ℕ) (p q : Progression) → cs �
 hulls_same m xs ys cs ds p q a b h k =
     ap (λ (n : Progression). join_spans m n q) (h ∙ ap (λ (zs : List ℕ). hull m zs) a) ∙ ap (λ (n : Progression). join_spans m (hull m xs) n) (k ∙ ap (λ (zs : List ℕ). hull m zs) b)
 
-pub list_and_run : (m : ℕ) (xs cs : List ℕ) (p q : Progression) → cs ≡ xs → p ≡ hull m cs → join_spans m p q ≡ join_apart m (Values xs) (Run q)
+pub list_and_run : (m : ℕ) (xs cs : List ℕ) (p q : Progression) → cs ≡ xs → p ≡ hull m cs
+    → join_spans m p q ≡ join_apart m (Values xs) (Run q)
 list_and_run m xs cs p q a h = ap (λ (n : Progression). join_spans m n q) (h ∙ ap (λ (zs : List ℕ). hull m zs) a) ∙ sym (apart-list_run m xs q)
 
-pub run_and_any : (m : ℕ) (p : Progression) (first second : Form) (q : Progression) → first ≡ Run p → q ≡ span m second → join_spans m p q ≡ join_apart m first second
+pub run_and_any : (m : ℕ) (p : Progression) (first second : Form) (q : Progression) → first ≡ Run p → q ≡ span m second
+    → join_spans m p q ≡ join_apart m first second
 run_and_any m p first second q a h =
     ap (λ (n : Progression). join_spans m p n) h ∙ sym (apart-run m p second) ∙ ap (λ (set : Form). join_apart m set second) (sym a)

@@ -159,7 +159,8 @@ tail_same low m x xs ys a b to v h = elim (to v (inr h)) [
 ]
 
 -- ascending lists with the same members are equal
-pub same_ascending : (low m : ℕ) (xs ys : List ℕ) → Ascends low m xs → Ascends low m ys → ((v : ℕ) → IsIn v xs → IsIn v ys) → ((v : ℕ) → IsIn v ys → IsIn v xs) → xs ≡ ys
+pub same_ascending : (low m : ℕ) (xs ys : List ℕ) → Ascends low m xs → Ascends low m ys
+    → ((v : ℕ) → IsIn v xs → IsIn v ys) → ((v : ℕ) → IsIn v ys → IsIn v xs) → xs ≡ ys
 same_ascending low m [] [] a b to back = refl
 same_ascending low m [] (y ∷ ys) a b to back = absurd (back y (inl refl))
 same_ascending low m (x ∷ xs) [] a b to back = absurd (to x (inl refl))
@@ -211,7 +212,8 @@ put_found low m v zero (x ∷ xs) a h e = put-same v x xs (sym e)
 put_found low m v (suc i) (x ∷ xs) a h e = let high = Ascends-at (x + 1) m i xs a.2 (omega arith) in
     put-above v x xs (omega (arith, high.0, e)) ∙ ap (λ (rest : List ℕ). x ∷ rest) (put_found (x + 1) m v i xs a.2 (omega arith) e)
 
-pub put_insert : (v at : ℕ) (xs : List ℕ) → at ≤ length xs → ((k : ℕ) → k < at → get_or xs k 0 < v) → ((k : ℕ) → at ≤ k → k < length xs → v < get_or xs k 0)
+pub put_insert : (v at : ℕ) (xs : List ℕ) → at ≤ length xs → ((k : ℕ) → k < at → get_or xs k 0 < v)
+    → ((k : ℕ) → at ≤ k → k < length xs → v < get_or xs k 0)
     → insert xs at v ≡ put v xs
 put_insert v zero [] h before behind = sym (put-nil v)
 put_insert v (suc at) [] h before behind = absurd (omega arith)
@@ -227,7 +229,8 @@ pub ascending_more : (xs : List ℕ) (i d : ℕ) → i < length xs → ascending
 ascending_more xs i d h = ap (λ (ys : List ℕ). ascending ys) (take_more xs i d h) ∙ put_all-push [] (take i xs) (get_or xs i d)
 
 -- ascending numbers stay as they are
-put_all_ascending : (low m : ℕ) (held xs : List ℕ) → ((v : ℕ) → IsIn v held → v < low) → Ascends 0 m held → Ascends low m xs → put_all held xs ≡ held ++ xs
+put_all_ascending : (low m : ℕ) (held xs : List ℕ) → ((v : ℕ) → IsIn v held → v < low) → Ascends 0 m held
+    → Ascends low m xs → put_all held xs ≡ held ++ xs
 put_all_ascending low m held [] below rises a = sym (append-nil held)
 put_all_ascending low m held (x ∷ xs) below rises a =
     let next : put x held ≡ held ++ x ∷ [] = put_above_all x held (λ v i. omega (arith, below v i, a.0)) in

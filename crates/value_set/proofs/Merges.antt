@@ -100,7 +100,8 @@ merge_is m xs ys a b = same_ascending 0 m (merge xs ys) (ascending (xs ++ ys)) (
 
 -- ---- the walk that puts them together
 
-both_at : (xs ys : List ℕ) (i j : ℕ) → i < length xs → j < length ys → merge (drop i xs) (drop j ys) ≡ merge (get_or xs i 0 ∷ drop (i + 1) xs) (get_or ys j 0 ∷ drop (j + 1) ys)
+both_at : (xs ys : List ℕ) (i j : ℕ) → i < length xs → j < length ys
+    → merge (drop i xs) (drop j ys) ≡ merge (get_or xs i 0 ∷ drop (i + 1) xs) (get_or ys j 0 ∷ drop (j + 1) ys)
 both_at xs ys i j h k = ap (λ (zs : List ℕ). merge zs (drop j ys)) (drop_at xs i h) ∙ ap (λ (zs : List ℕ). merge (get_or xs i 0 ∷ drop (i + 1) xs) zs) (drop_at ys j k)
 
 pub took_first : (few xs ys : List ℕ) (i j : ℕ) → i < length xs → j < length ys → get_or xs i 0 < get_or ys j 0
@@ -180,7 +181,8 @@ sub_from v (x ∷ xs) (y ∷ ys) t h = elim (cases_order x y) [
   ]
 ]
 
-sub_to : (low below m : ℕ) (xs ys : List ℕ) → Ascends low m xs → Ascends below m ys → ((v : ℕ) → IsIn v xs → IsIn v ys) → is_sublist xs ys ≡ true
+sub_to : (low below m : ℕ) (xs ys : List ℕ) → Ascends low m xs → Ascends below m ys → ((v : ℕ) → IsIn v xs → IsIn v ys)
+    → is_sublist xs ys ≡ true
 sub_to low below m [] ys a b to = sub-none ys
 sub_to low below m (x ∷ xs) [] a b to = absurd (to x (inl refl))
 sub_to low below m (x ∷ xs) (y ∷ ys) a b to = elim (cases_order x y) [
@@ -204,10 +206,12 @@ sub_tells m xs ys answer a b is = (
   λ to. is ∙ sub_to 0 0 m xs ys a b (λ v h. in_from_Contains ys v (to v (Contains_from_in xs v h))),
 )
 
-subs_at : (xs ys : List ℕ) (i j : ℕ) → i < length xs → j < length ys → is_sublist (drop i xs) (drop j ys) ≡ is_sublist (get_or xs i 0 ∷ drop (i + 1) xs) (get_or ys j 0 ∷ drop (j + 1) ys)
+subs_at : (xs ys : List ℕ) (i j : ℕ) → i < length xs → j < length ys
+    → is_sublist (drop i xs) (drop j ys) ≡ is_sublist (get_or xs i 0 ∷ drop (i + 1) xs) (get_or ys j 0 ∷ drop (j + 1) ys)
 subs_at xs ys i j h k = ap (λ (zs : List ℕ). is_sublist zs (drop j ys)) (drop_at xs i h) ∙ ap (λ (zs : List ℕ). is_sublist (get_or xs i 0 ∷ drop (i + 1) xs) zs) (drop_at ys j k)
 
-pub sub_refused : (xs ys : List ℕ) (i j : ℕ) → i < length xs → j < length ys → get_or xs i 0 < get_or ys j 0 → is_sublist (drop i xs) (drop j ys) ≡ false
+pub sub_refused : (xs ys : List ℕ) (i j : ℕ) → i < length xs → j < length ys → get_or xs i 0 < get_or ys j 0
+    → is_sublist (drop i xs) (drop j ys) ≡ false
 sub_refused xs ys i j h k less = subs_at xs ys i j h k ∙ sub-less (get_or xs i 0) (drop (i + 1) xs) (get_or ys j 0) (drop (j + 1) ys) less
 
 pub sub_found : (xs ys : List ℕ) (i j : ℕ) → i < length xs → j < length ys → get_or xs i 0 ≡ get_or ys j 0
@@ -234,12 +238,14 @@ ended xs ys i j h k = elim (cases_eq i (length xs)) [
 
 -- ---- joins of lists
 
-pub second_within : (m : ℕ) (xs ys : List ℕ) → Ascends 0 m xs → Ascends 0 m ys → Includes m (Values xs) (Values ys) → ascending (xs ++ ys) ≡ xs
+pub second_within : (m : ℕ) (xs ys : List ℕ) → Ascends 0 m xs → Ascends 0 m ys → Includes m (Values xs) (Values ys)
+    → ascending (xs ++ ys) ≡ xs
 second_within m xs ys a b inside = same_ascending 0 m (ascending (xs ++ ys)) xs (Ascends-put_all m [] (xs ++ ys) (lists_below m xs ys a b) tt) a
     (λ v h. elim (in_either v xs ys (in_ascending v (xs ++ ys) h)) [ inl i ↦ i | inr i ↦ in_from_Contains xs v (inside v (Contains_from_in ys v i)) ])
     (λ v h. put_all_has v [] (xs ++ ys) (in_front v xs ys h))
 
-pub first_within : (m : ℕ) (xs ys : List ℕ) → Ascends 0 m xs → Ascends 0 m ys → Includes m (Values ys) (Values xs) → ascending (xs ++ ys) ≡ ys
+pub first_within : (m : ℕ) (xs ys : List ℕ) → Ascends 0 m xs → Ascends 0 m ys → Includes m (Values ys) (Values xs)
+    → ascending (xs ++ ys) ≡ ys
 first_within m xs ys a b inside = same_ascending 0 m (ascending (xs ++ ys)) ys (Ascends-put_all m [] (xs ++ ys) (lists_below m xs ys a b) tt) b
     (λ v h. elim (in_either v xs ys (in_ascending v (xs ++ ys) h)) [ inl i ↦ in_from_Contains ys v (inside v (Contains_from_in xs v i)) | inr i ↦ i ])
     (λ v h. put_all_has v [] (xs ++ ys) (in_behind v xs ys h))
@@ -275,7 +281,8 @@ lists_missed m xs ys n k is =
 
 -- ---- other joins
 
-pub apart_spans : (m : ℕ) (first second : Form) → HasRun first second → join_apart m first second ≡ join_spans m (span m first) (span m second)
+pub apart_spans : (m : ℕ) (first second : Form) → HasRun first second
+    → join_apart m first second ≡ join_spans m (span m first) (span m second)
 apart_spans m (Values xs) (Values ys) run = absurd run
 apart_spans m (Values xs) (Run q) run = apart-list_run m xs q
 apart_spans m (Run p) second run = apart-run m p second
@@ -287,7 +294,8 @@ pub join_itself : (m : ℕ) (first second : Form) → first ≡ second → first
 join_itself m first second same = sym (join-first m first second (test_from_includes m second first (λ v h. subst (λ (set : Form). Has m set v) (sym same) h)))
 
 -- a join that is the first set has the second within
-pub join_held : (m : ℕ) (first second : Form) → IsNormal m first → IsNormal m second → join m first second ≡ first → is_within m second first ≡ true
+pub join_held : (m : ℕ) (first second : Form) → IsNormal m first → IsNormal m second → join m first second ≡ first
+    → is_within m second first ≡ true
 join_held m first second n k same = test_from_includes m second first (λ v h. subst (λ (set : Form). Has m set v) same (join_includes_second m first second n k v h))
 
 pub join_grown : (m : ℕ) (first second : Form) → (join m first second ≡ first → ⊥) → is_within m second first ≡ false
@@ -301,7 +309,8 @@ includes_itself m smaller larger same v h = subst (λ (set : Form). Has m set v)
 pub list_ascends : (m : ℕ) (xs : List ℕ) (set : Form) → m ≤ 65536 → set ≡ Values xs → IsNormal m set → Ascends 0 65536 xs
 list_ascends m xs set small is n = let n' : IsNormal m (Values xs) = subst (λ (set : Form). IsNormal m set) is n in Ascends-wider 0 m 65536 xs small n'.2
 
-pub run_outside : (m : ℕ) (p : Progression) (xs : List ℕ) (smaller larger : Form) → smaller ≡ Run p → larger ≡ Values xs → IsNormal m smaller → IsNormal m larger
+pub run_outside : (m : ℕ) (p : Progression) (xs : List ℕ) (smaller larger : Form) → smaller ≡ Run p → larger ≡ Values xs
+    → IsNormal m smaller → IsNormal m larger
     → Includes m larger smaller → ⊥
 run_outside m p xs smaller larger is is_too n k inside =
     let n' : IsNormalRun m p.base p.stride p.count = subst (λ (set : Form). IsNormal m set) is n in

@@ -78,7 +78,8 @@ strides_with m n b g (x ∷ xs) h each = strides_with m n b (gcd g (above m b x)
 nothing_divided : (n : ℕ) → n ∣ 0
 nothing_divided n = dvd_of_mod-eq-zero n (omega arith)
 
-pub ascending_with : (m n r : ℕ) (xs : List ℕ) → n ∣ m → 1 ≤ length xs → Ascends 0 m xs → ((v : ℕ) → IsIn v xs → v % n ≡ r) → RunsWith n r (hull m xs)
+pub ascending_with : (m n r : ℕ) (xs : List ℕ) → n ∣ m → 1 ≤ length xs → Ascends 0 m xs
+    → ((v : ℕ) → IsIn v xs → v % n ≡ r) → RunsWith n r (hull m xs)
 unfolding hull
 ascending_with m n r xs whole some rises each =
     let first = hull_base_in m xs some in
@@ -106,13 +107,15 @@ span_with m n r (Run p) whole form each = run_with m n r p whole form each
 
 -- ---- joins
 
-candidate_with : (m n r : ℕ) (p q : Progression) → n ∣ m → IsRun m p → IsRun m q → RunsWith n r p → RunsWith n r q → n ∣ (candidate m p q).stride
+candidate_with : (m n r : ℕ) (p q : Progression) → n ∣ m → IsRun m p → IsRun m q → RunsWith n r p → RunsWith n r q
+    → n ∣ (candidate m p q).stride
 unfolding candidate
 candidate_with m n r p q whole s t first second =
     gcd_above n (gcd p.stride q.stride) (above m p.base q.base) (gcd_above n p.stride q.stride first.1 second.1)
     (above_divides m n p.base q.base whole s.below t.below (first.0 ∙ sym second.0))
 
-pub join_spans_remainder : (m n r : ℕ) (p q : Progression) → n ∣ m → IsRun m p → IsRun m q → RunsWith n r p → RunsWith n r q → HasRemainder m n r (join_spans m p q)
+pub join_spans_remainder : (m n r : ℕ) (p q : Progression) → n ∣ m → IsRun m p → IsRun m q → RunsWith n r p
+    → RunsWith n r q → HasRemainder m n r (join_spans m p q)
 join_spans_remainder m n r p q whole s t first second =
     let one = candidate m p q in
     let other = candidate m q p in
@@ -125,7 +128,8 @@ join_spans_remainder m n r p q whole s t first second =
     (λ low v h. make_remainder m n one.base one.stride (one.end / one.stride + 1) whole part v h ∙ base)
     (λ v h. class_remainder m n one.base one.stride whole part v h ∙ base)
 
-pub join_remainder : (m n r : ℕ) (a b : Form) → n ∣ m → IsNormal m a → IsNormal m b → HasRemainder m n r a → HasRemainder m n r b → HasRemainder m n r (join m a b)
+pub join_remainder : (m n r : ℕ) (a b : Form) → n ∣ m → IsNormal m a → IsNormal m b → HasRemainder m n r a
+    → HasRemainder m n r b → HasRemainder m n r (join m a b)
 join_remainder m n r a b whole k l first second = join_cases m a b (λ set. HasRemainder m n r set) (λ i. first) (λ i. second)
     (apart_cases m a b (λ set. HasRemainder m n r set)
     (λ xs ys is are short v h.
@@ -153,14 +157,16 @@ between_remainder m n r run (Some first) None whole k low v h = class_remainder 
 between_remainder m n r run (Some first) (Some last) whole k low v h = let found = low first refl in
     make_remainder m n first run.stride ((last - first) / run.stride + 1) whole k.1 v h ∙ lower_same n run.base first run.stride k.1 found.0 found.1 ∙ k.0
 
-widen_span_remainder : (m n r : ℕ) (run held : Progression) (marks : List ℕ) → n ∣ m → RunsWith n r run → HasRemainder m n r (widen_span m run held marks)
+widen_span_remainder : (m n r : ℕ) (run held : Progression) (marks : List ℕ) → n ∣ m → RunsWith n r run
+    → HasRemainder m n r (widen_span m run held marks)
 widen_span_remainder m n r run held marks whole k = elim (cases_Bool ((eqb (length marks) 0) || nat_le m (last_of run))) [
   | inl all ↦ rw (widen_span-class m run held marks all) (λ v h. class_remainder m n run.base run.stride whole k.1 v h ∙ k.0)
   | inr marked ↦ rw (widen_span-between m run held marks marked)
       (between_remainder m n r run (first_widened run held marks) (last_widened m run held marks) whole k (λ first is. first_cases run held marks first is))
 ]
 
-pub widen_remainder : (m n r : ℕ) (held new : Form) (marks : List ℕ) → n ∣ m → IsNormal m held → IsNormal m new → HasRemainder m n r held → HasRemainder m n r new
+pub widen_remainder : (m n r : ℕ) (held new : Form) (marks : List ℕ) → n ∣ m → IsNormal m held → IsNormal m new
+    → HasRemainder m n r held → HasRemainder m n r new
     → HasRemainder m n r (widen m held new marks)
 widen_remainder m n r held new marks whole k l first second = widen_cases m held new marks (λ set. HasRemainder m n r set) (λ inside. first)
     (widen_span_remainder m n r (span m (join m held new)) (span m held) marks whole
@@ -168,7 +174,8 @@ widen_remainder m n r held new marks whole k l first second = widen_cases m held
 
 -- ---- numbers that are gathered, and all results of an operation
 
-pub gather_remainder : (m n r : ℕ) (xs : List ℕ) → n ∣ m → 1 ≤ length xs → ((v : ℕ) → IsIn v xs → v < m) → ((v : ℕ) → IsIn v xs → v % n ≡ r) → HasRemainder m n r (gather m xs)
+pub gather_remainder : (m n r : ℕ) (xs : List ℕ) → n ∣ m → 1 ≤ length xs → ((v : ℕ) → IsIn v xs → v < m)
+    → ((v : ℕ) → IsIn v xs → v % n ≡ r) → HasRemainder m n r (gather m xs)
 gather_remainder m n r xs whole some below each =
     let rises = Ascends-put_all m [] xs below tt in
     let long = ascending_some xs some in
@@ -197,7 +204,8 @@ combine_remainder m n r answer a b c whole some_a some_b some_c below each =
 sum_same : (n r s x y : ℕ) → x % n ≡ r → y % n ≡ s → (x + y) % n ≡ (r + s) % n
 sum_same n r s x y h k = sym (mod-add-mod x n y) ∙ ap (λ (w : ℕ). (w + y) % n) h ∙ sym (add-mod-mod r y n) ∙ ap (λ (w : ℕ). (r + w) % n) k
 
-add_spans_remainder : (m n r s : ℕ) (p q : Progression) → n ∣ m → RunsWith n r p → RunsWith n s q → HasRemainder m n ((r + s) % n) (add_spans m p q)
+add_spans_remainder : (m n r s : ℕ) (p q : Progression) → n ∣ m → RunsWith n r p → RunsWith n s q
+    → HasRemainder m n ((r + s) % n) (add_spans m p q)
 add_spans_remainder m n r s p q whole first second =
     let base = sum_same n r s p.base q.base first.0 second.0 in
     let part = gcd_above n p.stride q.stride first.1 second.1 in
@@ -232,7 +240,8 @@ negated_with m n s p whole pos t k =
     let none : 0 + m - (p.base + reach p) % m ≡ m - (p.base + reach p) % m = omega arith in
     (ap (λ (w : ℕ). w % m % n) (sym none) ∙ difference_same m n 0 s 0 ((p.base + reach p) % m) whole pos low (omega arith) last, k.1)
 
-pub add_remainder : (m n r s : ℕ) (a b : Form) → n ∣ m → IsNormal m a → IsNormal m b → HasRemainder m n r a → HasRemainder m n s b → HasRemainder m n ((r + s) % n) (add m a b)
+pub add_remainder : (m n r s : ℕ) (a b : Form) → n ∣ m → IsNormal m a → IsNormal m b → HasRemainder m n r a
+    → HasRemainder m n s b → HasRemainder m n ((r + s) % n) (add m a b)
 add_remainder m n r s a b whole k l first second = elim (cases_lt 256 (count_of m a * count_of m b)) [
   | inr few ↦ rw (add-few m a b few) (combine_remainder m n ((r + s) % n) (sum_answer m) a b (single 0) whole (some_members m a k) (some_members m b l) (omega arith)
       (λ x y z h i j. mod-lt (x + y) {m = m} (modulus_positive m a k))
@@ -240,7 +249,8 @@ add_remainder m n r s a b whole k l first second = elim (cases_lt 256 (count_of 
   | inl many ↦ rw (add-many m a b many) (add_spans_remainder m n r s (span m a) (span m b) whole (span_with m n r a whole k first) (span_with m n s b whole l second))
 ]
 
-pub sub_remainder : (m n r s : ℕ) (a b : Form) → n ∣ m → IsNormal m a → IsNormal m b → HasRemainder m n r a → HasRemainder m n s b → HasRemainder m n ((r + n - s) % n) (sub m a b)
+pub sub_remainder : (m n r s : ℕ) (a b : Form) → n ∣ m → IsNormal m a → IsNormal m b → HasRemainder m n r a
+    → HasRemainder m n s b → HasRemainder m n ((r + n - s) % n) (sub m a b)
 sub_remainder m n r s a b whole k l first second =
     let pos : 0 < n = pos_of_dvd_of_pos {m = n} {n = m} whole (modulus_positive m a k) in
     elim (cases_lt 256 (count_of m a * count_of m b)) [
@@ -257,7 +267,8 @@ sub_remainder m n r s a b whole k l first second =
           (negated_with m n s (span m b) whole pos (span_is m b l) down) v h ∙ turned)
     ]
 
-twice_list_remainder : (m n r : ℕ) (xs : List ℕ) → n ∣ m → IsNormal m (Values xs) → ((v : ℕ) → IsIn v xs → (v + v) % m % n ≡ r) → HasRemainder m n r (twice m (Values xs))
+twice_list_remainder : (m n r : ℕ) (xs : List ℕ) → n ∣ m → IsNormal m (Values xs)
+    → ((v : ℕ) → IsIn v xs → (v + v) % m % n ≡ r) → HasRemainder m n r (twice m (Values xs))
 twice_list_remainder m n r xs whole k each = rw (twice-list m xs) (gather_remainder m n r (map (λ v. (v + v) % m) xs) whole (doubled_some (λ v. (v + v) % m) xs k.0)
     (λ v h. doubled_below m v xs (modulus_positive m (Values xs) k) h)
     (λ v h. let found = in_mapped (λ v. (v + v) % m) v xs h in subst (λ (w : ℕ). w % n ≡ r) found.2 (each found.0 found.1)))
@@ -283,19 +294,23 @@ twice_even m (Run p) whole k = twice_run_remainder m 2 0 p whole (dvd-mul_right 
 
 -- ---- cuts
 
-joined_remainder : (m n r : ℕ) (front behind : Option Form) → n ∣ m → IfThere (λ set. IsNormal m set) front → IfThere (λ set. IsNormal m set) behind
-    → IfThere (λ set. HasRemainder m n r set) front → IfThere (λ set. HasRemainder m n r set) behind → IfThere (λ set. HasRemainder m n r set) (join_parts m front behind)
+joined_remainder : (m n r : ℕ) (front behind : Option Form) → n ∣ m → IfThere (λ set. IsNormal m set) front
+    → IfThere (λ set. IsNormal m set) behind
+    → IfThere (λ set. HasRemainder m n r set) front → IfThere (λ set. HasRemainder m n r set) behind
+    → IfThere (λ set. HasRemainder m n r set) (join_parts m front behind)
 joined_remainder m n r None behind whole k l first second = second
 joined_remainder m n r (Some a) None whole k l first second = first
 joined_remainder m n r (Some a) (Some b) whole k l first second = join_remainder m n r a b whole k l first second
 
-part_remainder : (m n r base stride count : ℕ) → n ∣ m → n ∣ stride → (1 ≤ count → base % n ≡ r) → IfThere (λ set. HasRemainder m n r set) (part m base stride count)
+part_remainder : (m n r base stride count : ℕ) → n ∣ m → n ∣ stride → (1 ≤ count → base % n ≡ r)
+    → IfThere (λ set. HasRemainder m n r set) (part m base stride count)
 part_remainder m n r base stride count whole part same = elim (cases_eq count 0) [
   | inl none ↦ rw (part-none m base stride count none) tt
   | inr some ↦ rw (part-some m base stride count some) (λ v h. make_remainder m n base stride count whole part v h ∙ same (omega (arith, some)))
 ]
 
-behind_same : (m n r low : ℕ) (p : Progression) → n ∣ m → Low m p low → RunsWith n r p → front_count m p low < p.count → (low + behind_base m p low) % m % n ≡ r
+behind_same : (m n r low : ℕ) (p : Progression) → n ∣ m → Low m p low → RunsWith n r p → front_count m p low < p.count
+    → (low + behind_base m p low) % m % n ≡ r
 behind_same m n r low p whole (k, h) run short =
     let starts = behind_starts m low p k.strides short in
     let seen : low + behind_base m p low + m ≡ low + above m low p.base + front_count m p low * p.stride = omega (arith, starts) in
@@ -303,18 +318,21 @@ behind_same m n r low p whole (k, h) run short =
     ∙ step_same m n (low + above m low p.base) (front_count m p low * p.stride) whole (dvd-mul_left_of_dvd n run.1 (front_count m p low))
     ∙ sym (mod-mod_of_dvd n (low + above m low p.base) whole) ∙ ap (λ (w : ℕ). w % n) (base_seen m low p h k.below) ∙ run.0
 
-front_remainder : (m n r : ℕ) (p : Progression) (low len : ℕ) → n ∣ m → RunsWith n r p → IfThere (λ set. HasRemainder m n r set) (front_part m p low len)
+front_remainder : (m n r : ℕ) (p : Progression) (low len : ℕ) → n ∣ m → RunsWith n r p
+    → IfThere (λ set. HasRemainder m n r set) (front_part m p low len)
 unfolding front_part
 front_remainder m n r p low len whole run = part_remainder m n r p.base p.stride (count_below len (above m low p.base) p.stride (front_count m p low)) whole run.1 (λ _. run.0)
 
-behind_remainder : (m n r : ℕ) (p : Progression) (low len : ℕ) → n ∣ m → Low m p low → RunsWith n r p → IfThere (λ set. HasRemainder m n r set) (behind_part m p low len)
+behind_remainder : (m n r : ℕ) (p : Progression) (low len : ℕ) → n ∣ m → Low m p low → RunsWith n r p
+    → IfThere (λ set. HasRemainder m n r set) (behind_part m p low len)
 unfolding behind_part
 behind_remainder m n r p low len whole l run =
     part_remainder m n r ((low + behind_base m p low) % m) p.stride (count_below len (behind_base m p low) p.stride (p.count - front_count m p low)) whole run.1
     (λ some. let k = l.0 in let less = count_less len (behind_base m p low) p.stride (p.count - front_count m p low) k.strides in
     behind_same m n r low p whole l run (omega (arith, some, less)))
 
-pub cut_remainder : (m n r : ℕ) (set : Form) (low len : ℕ) → n ∣ m → IsNormal m set → low < m → HasRemainder m n r set → IfThere (λ s. HasRemainder m n r s) (cut m set low len)
+pub cut_remainder : (m n r : ℕ) (set : Form) (low len : ℕ) → n ∣ m → IsNormal m set → low < m → HasRemainder m n r set
+    → IfThere (λ s. HasRemainder m n r s) (cut m set low len)
 unfolding cut
 cut_remainder m n r (Values xs) low len whole k h each = list_there (filter (λ v. ltb (above m low v) len) xs) (λ s. HasRemainder m n r s)
     (λ some v i. each v (Contains_from_in xs v (in_filtered (λ v. ltb (above m low v) len) v xs (in_from_Contains (filter (λ v. ltb (above m low v) len) xs) v i)).0))

@@ -10,7 +10,8 @@ pub gather_one : (m v : ℕ) → gather m (v ∷ []) ≡ single v
 unfolding put
 gather_one m v = set_of-few m (v ∷ []) (omega arith)
 
-pub combine_one : (m : ℕ) (answer : ℕ → ℕ → ℕ → ℕ) (a b c : Form) (x y z : ℕ) → a ≡ single x → b ≡ single y → c ≡ single z → combine m answer a b c ≡ single (answer x y z)
+pub combine_one : (m : ℕ) (answer : ℕ → ℕ → ℕ → ℕ) (a b c : Form) (x y z : ℕ) → a ≡ single x → b ≡ single y
+    → c ≡ single z → combine m answer a b c ≡ single (answer x y z)
 unfolding combine
 combine_one m answer a b c x y z h k l = rw (h, k, l) (gather_one m (answer x y z))
 

@@ -27,11 +27,13 @@ greater_below a b m h k = elim (cases_lt a b) [ inl low ↦ rw (lt-ltb a b low) 
 
 -- ---- the hull of some numbers
 
-pub widest-wider : (best width previous x : ℕ) (xs : List ℕ) → width < x - previous → behind_widest best width previous (x ∷ xs) ≡ behind_widest x (x - previous) x xs
+pub widest-wider : (best width previous x : ℕ) (xs : List ℕ) → width < x - previous
+    → behind_widest best width previous (x ∷ xs) ≡ behind_widest x (x - previous) x xs
 unfolding behind_widest
 widest-wider best width previous x xs h = rw (lt-ltb width (x - previous) h) refl
 
-pub widest-narrow : (best width previous x : ℕ) (xs : List ℕ) → x - previous ≤ width → behind_widest best width previous (x ∷ xs) ≡ behind_widest best width x xs
+pub widest-narrow : (best width previous x : ℕ) (xs : List ℕ) → x - previous ≤ width
+    → behind_widest best width previous (x ∷ xs) ≡ behind_widest best width x xs
 unfolding behind_widest
 widest-narrow best width previous x xs h = rw (le-ltb width (x - previous) h) refl
 
@@ -99,7 +101,8 @@ hull_is m xs h a =
     let fits = fits_to m (common_stride m (hull_base m xs) xs) (farthest m (hull_base m xs) xs) (farthest_below m (hull_base m xs) 0 xs pos pos) in
     record { below = low.1; some = fits.some; once = fits.once; strides = fits.strides }
 
-pub hull_has : (m v : ℕ) (xs : List ℕ) → 1 ≤ length xs → Ascends 0 m xs → IsIn v xs → InRun m (hull m xs).base (hull m xs).stride (hull m xs).count v
+pub hull_has : (m v : ℕ) (xs : List ℕ) → 1 ≤ length xs → Ascends 0 m xs → IsIn v xs
+    → InRun m (hull m xs).base (hull m xs).stride (hull m xs).count v
 unfolding hull
 hull_has m v xs h a i =
     let low = Ascends-in 0 m (hull_base m xs) xs a (hull_base_in m xs h) in

@@ -29,7 +29,8 @@ use Rattle.value_set.proofs.Answering.{member_below}
 
 -- ---- results of an operation
 
-pub results_have : (f : ℕ → ℕ → ℕ → ℕ) (x y z : ℕ) (xs ys zs : List ℕ) → IsIn x xs → IsIn y ys → IsIn z zs → IsIn (f x y z) (results f xs ys zs)
+pub results_have : (f : ℕ → ℕ → ℕ → ℕ) (x y z : ℕ) (xs ys zs : List ℕ) → IsIn x xs → IsIn y ys → IsIn z zs
+    → IsIn (f x y z) (results f xs ys zs)
 results_have f x y z xs ys zs i j k = in_flat_map (λ x. flat_map (λ y. map (λ z. f x y z) zs) ys) x (f x y z) xs i
     (in_flat_map (λ y. map (λ z. f x y z) zs) y (f x y z) ys j (in_map (λ z. f x y z) z zs k))
 
@@ -53,7 +54,8 @@ pub some_from_in : (v : ℕ) (xs : List ℕ) → IsIn v xs → 1 ≤ length xs
 some_from_in v [] h = absurd h
 some_from_in v (x ∷ xs) h = omega arith
 
-pub results_some : (answer : ℕ → ℕ → ℕ → ℕ) (xs ys zs : List ℕ) → 1 ≤ length xs → 1 ≤ length ys → 1 ≤ length zs → 1 ≤ length (results answer xs ys zs)
+pub results_some : (answer : ℕ → ℕ → ℕ → ℕ) (xs ys zs : List ℕ) → 1 ≤ length xs → 1 ≤ length ys → 1 ≤ length zs
+    → 1 ≤ length (results answer xs ys zs)
 results_some answer xs ys zs n k l =
     let x = first_in xs n in
     let y = first_in ys k in
@@ -64,7 +66,8 @@ pub some_results : (m : ℕ) (answer : ℕ → ℕ → ℕ → ℕ) (a b c : For
     → 1 ≤ length (results answer (members m a) (members m b) (members m c))
 some_results m answer a b c n k l = results_some answer (members m a) (members m b) (members m c) (some_members m a n) (some_members m b k) (some_members m c l)
 
-pub results_below : (m : ℕ) (answer : ℕ → ℕ → ℕ → ℕ) (a b c : Form) (v : ℕ) → IsNormal m a → IsNormal m b → IsNormal m c → StaysBelow m answer
+pub results_below : (m : ℕ) (answer : ℕ → ℕ → ℕ → ℕ) (a b c : Form) (v : ℕ) → IsNormal m a → IsNormal m b → IsNormal m c
+    → StaysBelow m answer
     → IsIn v (results answer (members m a) (members m b) (members m c)) → v < m
 results_below m answer a b c v n k l stays h =
     let found = results_are answer v (members m a) (members m b) (members m c) h in
@@ -72,12 +75,14 @@ results_below m answer a b c v n k l stays h =
     (member_below m found.1 b k (Contains_from_in (members m b) found.1 found.4)) (member_below m found.2 c l (Contains_from_in (members m c) found.2 found.5)) in
     omega (arith, low, found.6)
 
-pub combine_normal : (m : ℕ) (answer : ℕ → ℕ → ℕ → ℕ) (a b c : Form) → IsNormal m a → IsNormal m b → IsNormal m c → StaysBelow m answer → IsNormal m (combine m answer a b c)
+pub combine_normal : (m : ℕ) (answer : ℕ → ℕ → ℕ → ℕ) (a b c : Form) → IsNormal m a → IsNormal m b → IsNormal m c
+    → StaysBelow m answer → IsNormal m (combine m answer a b c)
 unfolding combine
 combine_normal m answer a b c n k l stays = gather_normal m (results answer (members m a) (members m b) (members m c)) (some_results m answer a b c n k l)
     (λ v h. results_below m answer a b c v n k l stays h)
 
-pub combine_has : (m : ℕ) (answer : ℕ → ℕ → ℕ → ℕ) (a b c : Form) (x y z : ℕ) → IsNormal m a → IsNormal m b → IsNormal m c → StaysBelow m answer
+pub combine_has : (m : ℕ) (answer : ℕ → ℕ → ℕ → ℕ) (a b c : Form) (x y z : ℕ) → IsNormal m a → IsNormal m b
+    → IsNormal m c → StaysBelow m answer
     → Has m a x → Has m b y → Has m c z → Has m (combine m answer a b c) (answer x y z)
 unfolding combine
 combine_has m answer a b c x y z n k l stays h i j = gather_has m (answer x y z) (results answer (members m a) (members m b) (members m c)) (some_results m answer a b c n k l)
@@ -86,7 +91,8 @@ combine_has m answer a b c x y z n k l stays h i j = gather_has m (answer x y z)
 
 -- ---- sums of runs
 
-pub add_spans_cases : (m : ℕ) (p q : Progression) (P : Form → Type 0) → (reach p + reach q < m → P (make m (p.base + q.base) (gcd p.stride q.stride) ((reach p + reach q) / gcd p.stride q.stride + 1)))
+pub add_spans_cases : (m : ℕ) (p q : Progression) (P : Form → Type 0)
+    → (reach p + reach q < m → P (make m (p.base + q.base) (gcd p.stride q.stride) ((reach p + reach q) / gcd p.stride q.stride + 1)))
     → P (class m (p.base + q.base) (gcd p.stride q.stride)) → P (add_spans m p q)
 unfolding add_spans
 add_spans_cases m p q P one all = elim (cases_lt (reach p + reach q) m) [
@@ -101,7 +107,8 @@ add_spans_normal m p q pos = add_spans_cases m p q (λ set. IsNormal m set) (λ 
 pub sum_mod : (m a b x y : ℕ) → x ≡ a % m → y ≡ b % m → (x + y) % m ≡ (a + b) % m
 sum_mod m a b x y h k = ap (λ (n : ℕ). (n + y) % m) h ∙ base_mod m a y ∙ ap (λ (n : ℕ). (a + n) % m) k ∙ add-mod-mod a b m
 
-pub add_spans_has : (m : ℕ) (p q : Progression) (x y : ℕ) → IsRun m p → IsRun m q → InSpan m p x → InSpan m q y → Has m (add_spans m p q) ((x + y) % m)
+pub add_spans_has : (m : ℕ) (p q : Progression) (x y : ℕ) → IsRun m p → IsRun m q → InSpan m p x → InSpan m q y
+    → Has m (add_spans m p q) ((x + y) % m)
 add_spans_has m p q x y s t (i, short, is) (j, shorter, are) =
     let g = gcd p.stride q.stride in
     let k = i * p.stride + j * q.stride in
@@ -242,17 +249,21 @@ twice_has m (Run p) v n h =
 
 -- ---- as the code finds them
 
-pub row_more : (held zs : List ℕ) (f : ℕ → ℕ) (i : ℕ) → i < length zs → put_all held (map f (take (i + 1) zs)) ≡ put (f (get_or zs i 0)) (put_all held (map f (take i zs)))
+pub row_more : (held zs : List ℕ) (f : ℕ → ℕ) (i : ℕ) → i < length zs
+    → put_all held (map f (take (i + 1) zs)) ≡ put (f (get_or zs i 0)) (put_all held (map f (take i zs)))
 row_more held zs f i h =
     ap (λ (ys : List ℕ). put_all held (map f ys)) (take_more zs i 0 h) ∙ ap (λ (ys : List ℕ). put_all held ys) (map-append f (take i zs) (get_or zs i 0 ∷ []))
     ∙ put_all-push held (map f (take i zs)) (f (get_or zs i 0))
 
-pub rows_more : (held ys : List ℕ) (f : ℕ → List ℕ) (i : ℕ) → i < length ys → put_all held (flat_map f (take (i + 1) ys)) ≡ put_all (put_all held (flat_map f (take i ys))) (f (get_or ys i 0))
+pub rows_more : (held ys : List ℕ) (f : ℕ → List ℕ) (i : ℕ) → i < length ys
+    → put_all held (flat_map f (take (i + 1) ys)) ≡ put_all (put_all held (flat_map f (take i ys))) (f (get_or ys i 0))
 rows_more held ys f i h =
     ap (λ (zs : List ℕ). put_all held (flat_map f zs)) (take_more ys i 0 h) ∙ ap (λ (zs : List ℕ). put_all held zs) (flat_map-append f (take i ys) (get_or ys i 0 ∷ []) ∙ ap (λ (zs : List ℕ). flat_map f (take i ys) ++ zs) (append-nil (f (get_or ys i 0))))
     ∙ put_all-append held (flat_map f (take i ys)) (f (get_or ys i 0))
 
-pub combine-is : (m : ℕ) (answer : ℕ → ℕ → ℕ → ℕ) (a b c : Form) (values : List ℕ) → values ≡ ascending (results answer (members m a) (members m b) (members m c)) → set_of m values ≡ combine m answer a b c
+pub combine-is : (m : ℕ) (answer : ℕ → ℕ → ℕ → ℕ) (a b c : Form) (values : List ℕ)
+    → values ≡ ascending (results answer (members m a) (members m b) (members m c))
+    → set_of m values ≡ combine m answer a b c
 unfolding combine
 combine-is m answer a b c values is = ap (λ (xs : List ℕ). set_of m xs) is
 
@@ -263,11 +274,13 @@ results_ascend m answer a b c n k l stays = (
   ascending_some (results answer (members m a) (members m b) (members m c)) (some_results m answer a b c n k l),
 )
 
-pub all_results : (answer : ℕ → ℕ → ℕ → ℕ) (i : ℕ) (values given xs ys zs : List ℕ) → values ≡ ascending (results answer (take i xs) ys zs) → given ≡ values → length xs ≤ i
+pub all_results : (answer : ℕ → ℕ → ℕ → ℕ) (i : ℕ) (values given xs ys zs : List ℕ)
+    → values ≡ ascending (results answer (take i xs) ys zs) → given ≡ values → length xs ≤ i
     → given ≡ ascending (results answer xs ys zs)
 all_results answer i values given xs ys zs is same h = same ∙ is ∙ ap (λ (ws : List ℕ). ascending (results answer ws ys zs)) (take_all i xs h)
 
-pub spans_once : (m base stride end first second count : ℕ) (p q : Progression) → base ≡ p.base + q.base → stride ≡ gcd p.stride q.stride → first ≡ reach p → second ≡ reach q
+pub spans_once : (m base stride end first second count : ℕ) (p q : Progression) → base ≡ p.base + q.base
+    → stride ≡ gcd p.stride q.stride → first ≡ reach p → second ≡ reach q
     → end ≡ first + second → end < m → count ≡ end / stride + 1 → make m base stride count ≡ add_spans m p q
 unfolding add_spans
 spans_once m base stride end first second count p q a b f s e low c =
@@ -276,7 +289,8 @@ spans_once m base stride end first second count p q a b f s e low c =
     ap (λ (n : ℕ). make m n stride count) a ∙ ap (λ (n : ℕ). make m (p.base + q.base) n count) b
     ∙ ap (λ (n : ℕ). make m (p.base + q.base) (gcd p.stride q.stride) n) (c ∙ ap (λ (n : ℕ). n / stride + 1) sum ∙ ap (λ (n : ℕ). (reach p + reach q) / n + 1) b))
 
-pub spans_round : (m base stride end first second : ℕ) (p q : Progression) → base ≡ p.base + q.base → stride ≡ gcd p.stride q.stride → first ≡ reach p → second ≡ reach q
+pub spans_round : (m base stride end first second : ℕ) (p q : Progression) → base ≡ p.base + q.base
+    → stride ≡ gcd p.stride q.stride → first ≡ reach p → second ≡ reach q
     → end ≡ first + second → m ≤ end → class m base stride ≡ add_spans m p q
 unfolding add_spans
 spans_round m base stride end first second p q a b f s e high =
@@ -287,18 +301,22 @@ pub negated_made : (m last : ℕ) (p : Progression) → last ≡ (p.base + reach
 unfolding negated
 negated_made m last p is = ap (λ (n : ℕ). let made : Progression = record { base = (m - n) % m; stride = p.stride; count = p.count } in made) is
 
-pub added_few : (m : ℕ) (a b carry : Form) → count_of m a * count_of m b ≤ 256 → carry ≡ single 0 → combine m (sum_answer m) a b carry ≡ add m a b
+pub added_few : (m : ℕ) (a b carry : Form) → count_of m a * count_of m b ≤ 256 → carry ≡ single 0
+    → combine m (sum_answer m) a b carry ≡ add m a b
 added_few m a b carry few is = ap (λ (c : Form). combine m (sum_answer m) a b c) is ∙ sym (add-few m a b few)
 
-pub added_many : (m : ℕ) (a b : Form) (p q : Progression) → (count_of m a * count_of m b ≤ 256 → ⊥) → p ≡ span m a → q ≡ span m b → add_spans m p q ≡ add m a b
+pub added_many : (m : ℕ) (a b : Form) (p q : Progression) → (count_of m a * count_of m b ≤ 256 → ⊥) → p ≡ span m a
+    → q ≡ span m b → add_spans m p q ≡ add m a b
 added_many m a b p q many s t =
     let more : 256 < count_of m a * count_of m b = elim (cases_lt 256 (count_of m a * count_of m b)) [ inl over ↦ over | inr few ↦ absurd (many few) ] in
     ap (λ (n : Progression). add_spans m n q) s ∙ ap (λ (n : Progression). add_spans m (span m a) n) t ∙ sym (add-many m a b more)
 
-pub taken_few : (m : ℕ) (a b carry : Form) → count_of m a * count_of m b ≤ 256 → carry ≡ single 0 → combine m (difference_answer m) a b carry ≡ sub m a b
+pub taken_few : (m : ℕ) (a b carry : Form) → count_of m a * count_of m b ≤ 256 → carry ≡ single 0
+    → combine m (difference_answer m) a b carry ≡ sub m a b
 taken_few m a b carry few is = ap (λ (c : Form). combine m (difference_answer m) a b c) is ∙ sym (sub-few m a b few)
 
-pub taken_many : (m : ℕ) (a b : Form) (p q down : Progression) → (count_of m a * count_of m b ≤ 256 → ⊥) → p ≡ span m a → q ≡ span m b → down ≡ negated m q → add_spans m p down ≡ sub m a b
+pub taken_many : (m : ℕ) (a b : Form) (p q down : Progression) → (count_of m a * count_of m b ≤ 256 → ⊥) → p ≡ span m a
+    → q ≡ span m b → down ≡ negated m q → add_spans m p down ≡ sub m a b
 taken_many m a b p q down many s t d =
     let more : 256 < count_of m a * count_of m b = elim (cases_lt 256 (count_of m a * count_of m b)) [ inl over ↦ over | inr few ↦ absurd (many few) ] in
     ap (λ (n : Progression). add_spans m n down) s ∙ ap (λ (n : Progression). add_spans m (span m a) n) (d ∙ ap (λ (n : Progression). negated m n) t) ∙ sym (sub-many m a b more)
@@ -310,12 +328,14 @@ pub summed_few : (m : ℕ) (sign : Sign) (a b carry : Form) → count_of m a * c
 summed_few m Plus = added_few m
 summed_few m Minus = taken_few m
 
-pub summed_many : (m : ℕ) (sign : Sign) (a b : Form) (p q : Progression) → (count_of m a * count_of m b ≤ 256 → ⊥) → p ≡ span m a → q ≡ signed_span m sign b
+pub summed_many : (m : ℕ) (sign : Sign) (a b : Form) (p q : Progression) → (count_of m a * count_of m b ≤ 256 → ⊥)
+    → p ≡ span m a → q ≡ signed_span m sign b
     → add_spans m p q ≡ signed m sign a b
 summed_many m Plus a b p q many s t = added_many m a b p q many s t
 summed_many m Minus a b p q many s t = taken_many m a b p (span m b) q many s refl t
 
-pub few_with_one : (m n : ℕ) (a b carry : Form) → count_of m a * count_of m b ≤ 256 → carry ≡ single n → count_of m a * (count_of m b * count_of m carry) ≤ 256
+pub few_with_one : (m n : ℕ) (a b carry : Form) → count_of m a * count_of m b ≤ 256 → carry ≡ single n
+    → count_of m a * (count_of m b * count_of m carry) ≤ 256
 few_with_one m n a b carry few is =
     let one : count_of m carry ≡ 1 = rw is refl in
     let e : count_of m b * count_of m carry ≡ count_of m b = ap (λ (k : ℕ). count_of m b * k) one ∙ (let u : count_of m b * 1 ≡ count_of m b = omega arith in u) in
@@ -324,7 +344,8 @@ few_with_one m n a b carry few is =
 pub carry_normal : (m n : ℕ) (carry : Form) → n < m → carry ≡ single n → IsNormal m carry
 carry_normal m n carry h is = subst (λ (set : Form). IsNormal m set) (sym is) (single_normal m n h)
 
-pub twice_of_list : (m i : ℕ) (values given list xs : List ℕ) → values ≡ ascending (map (λ v. (v + v) % m) (take i list)) → length list ≤ i → given ≡ values → list ≡ xs
+pub twice_of_list : (m i : ℕ) (values given list xs : List ℕ)
+    → values ≡ ascending (map (λ v. (v + v) % m) (take i list)) → length list ≤ i → given ≡ values → list ≡ xs
     → given ≡ ascending (map (λ v. (v + v) % m) xs)
 twice_of_list m i values given list xs is h same are =
     same ∙ is ∙ ap (λ (ys : List ℕ). ascending (map (λ v. (v + v) % m) ys)) (take_all i list h ∙ are)
@@ -332,7 +353,8 @@ twice_of_list m i values given list xs is h same are =
 pub twice_set : (m : ℕ) (given xs : List ℕ) → given ≡ ascending (map (λ v. (v + v) % m) xs) → set_of m given ≡ twice m (Values xs)
 twice_set m given xs is = ap (λ (ys : List ℕ). set_of m ys) is ∙ sym (twice-list m xs)
 
-pub twice_ascends : (m : ℕ) (xs : List ℕ) → IsNormal m (Values xs) → Ascends 0 m (ascending (map (λ v. (v + v) % m) xs)) × (1 ≤ length (ascending (map (λ v. (v + v) % m) xs)))
+pub twice_ascends : (m : ℕ) (xs : List ℕ) → IsNormal m (Values xs)
+    → Ascends 0 m (ascending (map (λ v. (v + v) % m) xs)) × (1 ≤ length (ascending (map (λ v. (v + v) % m) xs)))
 twice_ascends m xs n = (
   Ascends-put_all m [] (map (λ v. (v + v) % m) xs) (λ v h. doubled_below m v xs (modulus_positive m (Values xs) n) h) tt,
   ascending_some (map (λ v. (v + v) % m) xs) (doubled_some (λ v. (v + v) % m) xs n.0),

@@ -12,5 +12,6 @@ pub record IsPadded (room len : ℕ) (places : List ℕ) : Type 0 where
 pub length-front : (room len : ℕ) (places : List ℕ) → IsPadded room len places → length (take len places) ≡ len
 length-front room len places h = let short : len ≤ length places = omega arith in grind (arith, length-take-le)
 
-pub places_back : (room len : ℕ) (places : List ℕ) → IsPadded room len places → take len places ++ replicate (room - length (take len places)) 0 ≡ places
+pub places_back : (room len : ℕ) (places : List ℕ) → IsPadded room len places
+    → take len places ++ replicate (room - length (take len places)) 0 ≡ places
 places_back room len places h = ap (λ n. take len places ++ replicate (room - n) 0) (length-front room len places h) ∙ sym h.padded

@@ -39,14 +39,16 @@ pub record SetLaws : Type 0 where
   pub whole_normal : (m : ℕ) → 0 < m → IsNormal m (make m 0 1 m)
   -- runs
   pub run_normal : (m base stride count : ℕ) → Fits m stride count → IsNormal m (make m base stride count)
-  pub run_exact : (m base stride count v : ℕ) → Fits m stride count → Has m (make m base stride count) v ↔ Contains (steps m base stride count) v
+  pub run_exact : (m base stride count v : ℕ) → Fits m stride count
+      → Has m (make m base stride count) v ↔ Contains (steps m base stride count) v
   pub run_up_to : (m stride end : ℕ) → end < m → Fits m stride (end / stride + 1)
   pub run_remainder : (m n base stride count : ℕ) → m % n ≡ 0 → stride % n ≡ 0 → HasRemainder m n (base % n) (make m base stride count)
   pub run_below : (n m base stride count : ℕ) → base + (count - 1) * stride < n → n ≤ m → IsBelow m n (make m base stride count)
   -- the numbers of a run by their places
   pub steps_long : (m base stride count : ℕ) → length (steps m base stride count) ≡ count
   pub steps_have : (m base stride count i : ℕ) → i < count → Contains (steps m base stride count) ((base + i * stride) % m)
-  pub steps_from : (m base stride count v : ℕ) → Contains (steps m base stride count) v → (i : ℕ) × (i < count) × (v ≡ (base + i * stride) % m)
+  pub steps_from : (m base stride count v : ℕ) → Contains (steps m base stride count) v
+      → (i : ℕ) × (i < count) × (v ≡ (base + i * stride) % m)
   -- numbers that are gathered
   pub gather_normal : (m : ℕ) (xs : List ℕ) → 1 ≤ length xs → AreBelow m xs → IsNormal m (gather m xs)
   pub gather_holds : (m v : ℕ) (xs : List ℕ) → AreBelow m xs → Contains xs v → Has m (gather m xs) v
@@ -69,13 +71,17 @@ pub record SetLaws : Type 0 where
   pub join_normal : (m : ℕ) (a b : Form) → IsNormal m a → IsNormal m b → IsNormal m (join m a b)
   pub join_first : (m : ℕ) (a b : Form) → IsNormal m a → IsNormal m b → Includes m (join m a b) a
   pub join_second : (m : ℕ) (a b : Form) → IsNormal m a → IsNormal m b → Includes m (join m a b) b
-  pub join_below : (n m : ℕ) (a b : Form) → n + n ≤ m → IsNormal m a → IsNormal m b → IsBelow m n a → IsBelow m n b → IsBelow m n (join m a b)
+  pub join_below : (n m : ℕ) (a b : Form) → n + n ≤ m → IsNormal m a → IsNormal m b → IsBelow m n a → IsBelow m n b
+      → IsBelow m n (join m a b)
   pub join_rest : (m n r : ℕ) (a b : Form) → m % n ≡ 0 → IsNormal m a → IsNormal m b
       → HasRemainder m n r a → HasRemainder m n r b → HasRemainder m n r (join m a b)
   -- widened sets
-  pub widen_normal : (m : ℕ) (held new : Form) (marks : List ℕ) → IsNormal m held → IsNormal m new → AreMarks m marks → IsNormal m (widen m held new marks)
-  pub widen_held : (m : ℕ) (held new : Form) (marks : List ℕ) → IsNormal m held → IsNormal m new → AreMarks m marks → Includes m (widen m held new marks) held
-  pub widen_new : (m : ℕ) (held new : Form) (marks : List ℕ) → IsNormal m held → IsNormal m new → AreMarks m marks → Includes m (widen m held new marks) new
+  pub widen_normal : (m : ℕ) (held new : Form) (marks : List ℕ) → IsNormal m held → IsNormal m new → AreMarks m marks
+      → IsNormal m (widen m held new marks)
+  pub widen_held : (m : ℕ) (held new : Form) (marks : List ℕ) → IsNormal m held → IsNormal m new → AreMarks m marks
+      → Includes m (widen m held new marks) held
+  pub widen_new : (m : ℕ) (held new : Form) (marks : List ℕ) → IsNormal m held → IsNormal m new → AreMarks m marks
+      → Includes m (widen m held new marks) new
   pub widen_rest : (m n r : ℕ) (held new : Form) (marks : List ℕ) → m % n ≡ 0 → IsNormal m held → IsNormal m new
       → HasRemainder m n r held → HasRemainder m n r new → HasRemainder m n r (widen m held new marks)
   -- sums and differences
@@ -89,11 +95,13 @@ pub record SetLaws : Type 0 where
       → HasRemainder m n r a → HasRemainder m n s b → HasRemainder m n ((r + n - s) % n) (sums.sub m a b)
   pub twice_normal : (m : ℕ) (a : Form) → IsNormal m a → IsNormal m (sums.twice m a)
   pub twice : (m x : ℕ) (a : Form) → IsNormal m a → Has m a x → Has m (sums.twice m a) ((x + x) % m)
-  pub twice_rest : (m n r : ℕ) (a : Form) → m % n ≡ 0 → IsNormal m a → HasRemainder m n r a → HasRemainder m n ((r + r) % n) (sums.twice m a)
+  pub twice_rest : (m n r : ℕ) (a : Form) → m % n ≡ 0 → IsNormal m a → HasRemainder m n r a
+      → HasRemainder m n ((r + r) % n) (sums.twice m a)
   pub twice_even : (m : ℕ) (a : Form) → m % 2 ≡ 0 → IsNormal m a → HasRemainder m 2 0 (sums.twice m a)
   -- cuts
   pub cut_normal : (m low len : ℕ) (a part : Form) → IsNormal m a → low < m → cut m a low len ≡ Some part → IsNormal m part
-  pub cut_holds : (m low len v : ℕ) (a part : Form) → IsNormal m a → low < m → cut m a low len ≡ Some part → Has m a v → above m low v < len → Has m part v
+  pub cut_holds : (m low len v : ℕ) (a part : Form) → IsNormal m a → low < m → cut m a low len ≡ Some part → Has m a v
+      → above m low v < len → Has m part v
   pub cut_none : (m low len v : ℕ) (a : Form) → IsNormal m a → low < m → cut m a low len ≡ None → Has m a v → len ≤ above m low v
   pub cut_empty : (m low len : ℕ) (a : Form) → IsNormal m a → low < m → ((v : ℕ) → Has m a v → len ≤ above m low v) → cut m a low len ≡ None
   pub cut_rest : (m n r low len : ℕ) (a part : Form) → m % n ≡ 0 → IsNormal m a → low < m → cut m a low len ≡ Some part

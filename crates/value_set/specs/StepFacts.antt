@@ -9,7 +9,8 @@ steps_have m base stride count i h =
     let f : ℕ → ℕ = λ k. (base + k * stride) % m in
     (i, rw (length-map-range_with_len f 0 count) h, get_or-map-range_with_len f 0 count i i ((base + i * stride) % m) h (omega arith))
 
-pub steps_from : (m base stride count v : ℕ) → Contains (steps m base stride count) v → (i : ℕ) × (i < count) × (v ≡ (base + i * stride) % m)
+pub steps_from : (m base stride count v : ℕ) → Contains (steps m base stride count) v
+    → (i : ℕ) × (i < count) × (v ≡ (base + i * stride) % m)
 unfolding steps
 steps_from m base stride count v h =
     let f : ℕ → ℕ = λ k. (base + k * stride) % m in

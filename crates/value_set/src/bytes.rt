@@ -211,8 +211,10 @@ impl Vs8 {
         requires few { length (members 256 first.now) * (length (members 256 second.now) * length (members 256 carry.now)) ≤ 256 }
         ensures value { result ≡ calls.combine 256 (O.answer operation.now) first.now second.now carry.now }
         ensures normal { IsNormal 256 result }
-        ensures holds { (x y z : ℕ) → Has 256 first.now x → Has 256 second.now y → Has 256 carry.now z → Has 256 result (O.answer operation.now x y z) }
-        ensures alone { (x y z : ℕ) → first.now ≡ single x → second.now ≡ single y → carry.now ≡ single z → result ≡ single (O.answer operation.now x y z) }
+        ensures holds { (x y z : ℕ) → Has 256 first.now x → Has 256 second.now y → Has 256 carry.now z
+            → Has 256 result (O.answer operation.now x y z) }
+        ensures alone { (x y z : ℕ) → first.now ≡ single x → second.now ≡ single y → carry.now ≡ single z
+            → result ≡ single (O.answer operation.now x y z) }
     {
         Vs8 {
             form: sets::combine(MODULUS, operation, &first.form, &second.form, &carry.form),

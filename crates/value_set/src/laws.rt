@@ -33,14 +33,17 @@ pub fn single_and_whole_sets()
 /// an end below the modulus is such a run.
 pub fn runs_are_exact()
     ensures normal { (m base stride count : ℕ) → Fits m stride count → IsNormal m (make m base stride count) }
-    ensures exact { (m base stride count v : ℕ) → Fits m stride count → Has m (make m base stride count) v ↔ Contains (steps m base stride count) v }
+    ensures exact { (m base stride count v : ℕ) → Fits m stride count
+        → Has m (make m base stride count) v ↔ Contains (steps m base stride count) v }
     ensures up_to { (m stride end : ℕ) → end < m → Fits m stride (end / stride + 1) }
 {}
 
 /// The set of some numbers is in normal form, and has each of them.
 pub fn gathers_hold()
-    ensures normal { (m : ℕ) (xs : List ℕ) → 1 ≤ length xs → ((v : ℕ) → Contains xs v → v < m) → IsNormal m (gather m xs) }
-    ensures holds { (m v : ℕ) (xs : List ℕ) → ((v : ℕ) → Contains xs v → v < m) → Contains xs v → Has m (gather m xs) v }
+    ensures normal { (m : ℕ) (xs : List ℕ) → 1 ≤ length xs → ((v : ℕ) → Contains xs v → v < m)
+        → IsNormal m (gather m xs) }
+    ensures holds { (m v : ℕ) (xs : List ℕ) → ((v : ℕ) → Contains xs v → v < m) → Contains xs v
+        → Has m (gather m xs) v }
 {}
 
 /// The set of all results of any operation is in normal form, and has each of them.
@@ -71,32 +74,42 @@ pub fn joins_include_both()
 
 /// A widened set is one in normal form, and includes both sets.
 pub fn widenings_include_both()
-    ensures normal { (m : ℕ) (held new : AForm) (marks : List ℕ) → IsNormal m held → IsNormal m new → All (λ mark. mark < m) marks → IsNormal m (widen m held new marks) }
-    ensures held { (m : ℕ) (held new : AForm) (marks : List ℕ) → IsNormal m held → IsNormal m new → All (λ mark. mark < m) marks → Includes m (widen m held new marks) held }
-    ensures new { (m : ℕ) (held new : AForm) (marks : List ℕ) → IsNormal m held → IsNormal m new → All (λ mark. mark < m) marks → Includes m (widen m held new marks) new }
+    ensures normal { (m : ℕ) (held new : AForm) (marks : List ℕ) → IsNormal m held → IsNormal m new
+        → All (λ mark. mark < m) marks → IsNormal m (widen m held new marks) }
+    ensures held { (m : ℕ) (held new : AForm) (marks : List ℕ) → IsNormal m held → IsNormal m new
+        → All (λ mark. mark < m) marks → Includes m (widen m held new marks) held }
+    ensures new { (m : ℕ) (held new : AForm) (marks : List ℕ) → IsNormal m held → IsNormal m new
+        → All (λ mark. mark < m) marks → Includes m (widen m held new marks) new }
 {}
 
 /// Sums and differences are sets in normal form, and have the result of each two members.
 pub fn sums_hold()
     ensures add_normal { (m : ℕ) (a b : AForm) → IsNormal m a → IsNormal m b → IsNormal m (add m a b) }
-    ensures add { (m x y : ℕ) (a b : AForm) → IsNormal m a → IsNormal m b → Has m a x → Has m b y → Has m (add m a b) ((x + y) % m) }
+    ensures add { (m x y : ℕ) (a b : AForm) → IsNormal m a → IsNormal m b → Has m a x → Has m b y
+        → Has m (add m a b) ((x + y) % m) }
     ensures sub_normal { (m : ℕ) (a b : AForm) → IsNormal m a → IsNormal m b → IsNormal m (sub m a b) }
-    ensures sub { (m x y : ℕ) (a b : AForm) → IsNormal m a → IsNormal m b → Has m a x → Has m b y → Has m (sub m a b) ((x + m - y) % m) }
+    ensures sub { (m x y : ℕ) (a b : AForm) → IsNormal m a → IsNormal m b → Has m a x → Has m b y
+        → Has m (sub m a b) ((x + m - y) % m) }
     ensures twice_normal { (m : ℕ) (a : AForm) → IsNormal m a → IsNormal m (twice m a) }
     ensures twice { (m x : ℕ) (a : AForm) → IsNormal m a → Has m a x → Has m (twice m a) ((x + x) % m) }
 {}
 
 /// A cut is a set in normal form, and has each member in the window. There is none exactly where no member is in the window.
 pub fn cuts_hold()
-    ensures normal { (m low len : ℕ) (a part : AForm) → IsNormal m a → low < m → cut m a low len ≡ Some part → IsNormal m part }
-    ensures holds { (m low len v : ℕ) (a part : AForm) → IsNormal m a → low < m → cut m a low len ≡ Some part → Has m a v → above m low v < len → Has m part v }
-    ensures none { (m low len v : ℕ) (a : AForm) → IsNormal m a → low < m → cut m a low len ≡ None → Has m a v → len ≤ above m low v }
-    ensures empty { (m low len : ℕ) (a : AForm) → IsNormal m a → low < m → ((v : ℕ) → Has m a v → len ≤ above m low v) → cut m a low len ≡ None }
+    ensures normal { (m low len : ℕ) (a part : AForm) → IsNormal m a → low < m → cut m a low len ≡ Some part
+        → IsNormal m part }
+    ensures holds { (m low len v : ℕ) (a part : AForm) → IsNormal m a → low < m → cut m a low len ≡ Some part
+        → Has m a v → above m low v < len → Has m part v }
+    ensures none { (m low len v : ℕ) (a : AForm) → IsNormal m a → low < m → cut m a low len ≡ None → Has m a v
+        → len ≤ above m low v }
+    ensures empty { (m low len : ℕ) (a : AForm) → IsNormal m a → low < m
+        → ((v : ℕ) → Has m a v → len ≤ above m low v) → cut m a low len ≡ None }
 {}
 
 /// What is made of numbers with one remainder modulo a divisor of the modulus has only such numbers.
 pub fn made_of_one_remainder()
-    ensures run { (m n base stride count : ℕ) → m % n ≡ 0 → stride % n ≡ 0 → HasRemainder m n (base % n) (make m base stride count) }
+    ensures run { (m n base stride count : ℕ) → m % n ≡ 0 → stride % n ≡ 0
+        → HasRemainder m n (base % n) (make m base stride count) }
     ensures gather { (m n r : ℕ) (xs : List ℕ) → m % n ≡ 0 → 1 ≤ length xs
         → ((v : ℕ) → Contains xs v → v < m) → ((v : ℕ) → Contains xs v → v % n ≡ r) → HasRemainder m n r (gather m xs) }
     ensures results { (m n r : ℕ) (answer : ℕ → ℕ → ℕ → ℕ) (a b c : AForm) → m % n ≡ 0
@@ -115,7 +128,8 @@ pub fn remainders_stay()
         → HasRemainder m n r a → HasRemainder m n s b → HasRemainder m n ((r + s) % n) (add m a b) }
     ensures sub { (m n r s : ℕ) (a b : AForm) → m % n ≡ 0 → IsNormal m a → IsNormal m b
         → HasRemainder m n r a → HasRemainder m n s b → HasRemainder m n ((r + n - s) % n) (sub m a b) }
-    ensures twice { (m n r : ℕ) (a : AForm) → m % n ≡ 0 → IsNormal m a → HasRemainder m n r a → HasRemainder m n ((r + r) % n) (twice m a) }
+    ensures twice { (m n r : ℕ) (a : AForm) → m % n ≡ 0 → IsNormal m a → HasRemainder m n r a
+        → HasRemainder m n ((r + r) % n) (twice m a) }
     ensures twice_even { (m : ℕ) (a : AForm) → m % 2 ≡ 0 → IsNormal m a → HasRemainder m 2 0 (twice m a) }
     ensures cut { (m n r low len : ℕ) (a part : AForm) → m % n ≡ 0 → IsNormal m a → low < m → cut m a low len ≡ Some part
         → HasRemainder m n r a → HasRemainder m n r part }

@@ -85,7 +85,8 @@ pub fn add(modulus: u32, first: &Form, second: &Form) -> Form
     requires second_normal { IsNormal modulus second.now }
     ensures value { result ≡ calls.add modulus first.now second.now }
     ensures normal { IsNormal modulus result }
-    ensures holds { (x y : ℕ) → Has modulus first.now x → Has modulus second.now y → Has modulus result ((x + y) % modulus) }
+    ensures holds { (x y : ℕ) → Has modulus first.now x → Has modulus second.now y
+        → Has modulus result ((x + y) % modulus) }
     ensures alone { (x y : ℕ) → first.now ≡ single x → second.now ≡ single y → result ≡ single ((x + y) % modulus) }
 {
     signed_sum(modulus, Sign::Plus, first, second)
@@ -98,8 +99,10 @@ pub fn sub(modulus: u32, first: &Form, second: &Form) -> Form
     requires second_normal { IsNormal modulus second.now }
     ensures value { result ≡ calls.sub modulus first.now second.now }
     ensures normal { IsNormal modulus result }
-    ensures holds { (x y : ℕ) → Has modulus first.now x → Has modulus second.now y → Has modulus result ((x + modulus - y) % modulus) }
-    ensures alone { (x y : ℕ) → first.now ≡ single x → second.now ≡ single y → result ≡ single ((x + modulus - y) % modulus) }
+    ensures holds { (x y : ℕ) → Has modulus first.now x → Has modulus second.now y
+        → Has modulus result ((x + modulus - y) % modulus) }
+    ensures alone { (x y : ℕ) → first.now ≡ single x → second.now ≡ single y
+        → result ≡ single ((x + modulus - y) % modulus) }
 {
     signed_sum(modulus, Sign::Minus, first, second)
 }
@@ -148,8 +151,10 @@ pub fn combine<O: Operation>(
     requires few { length (members modulus first.now) * (length (members modulus second.now) * length (members modulus carry.now)) ≤ 256 }
     ensures value { result ≡ calls.combine modulus (O.answer operation.now) first.now second.now carry.now }
     ensures normal { IsNormal modulus result }
-    ensures holds { (x y z : ℕ) → Has modulus first.now x → Has modulus second.now y → Has modulus carry.now z → Has modulus result (O.answer operation.now x y z) }
-    ensures alone { (x y z : ℕ) → first.now ≡ single x → second.now ≡ single y → carry.now ≡ single z → result ≡ single (O.answer operation.now x y z) }
+    ensures holds { (x y z : ℕ) → Has modulus first.now x → Has modulus second.now y → Has modulus carry.now z
+        → Has modulus result (O.answer operation.now x y z) }
+    ensures alone { (x y z : ℕ) → first.now ≡ single x → second.now ≡ single y → carry.now ≡ single z
+        → result ≡ single (O.answer operation.now x y z) }
 {
     combining::combine(modulus, operation, first, second, carry)
 }

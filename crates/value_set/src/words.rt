@@ -198,8 +198,10 @@ impl Vs16 {
     pub fn sub(&self, other: &Vs16) -> Vs16
         ensures value { result ≡ calls.sub 65536 self.now other.now }
         ensures normal { IsNormal 65536 result }
-        ensures holds { (x y : ℕ) → Has 65536 self.now x → Has 65536 other.now y → Has 65536 result ((x + 65536 - y) % 65536) }
-        ensures alone { (x y : ℕ) → self.now ≡ single x → other.now ≡ single y → result ≡ single ((x + 65536 - y) % 65536) }
+        ensures holds { (x y : ℕ) → Has 65536 self.now x → Has 65536 other.now y
+            → Has 65536 result ((x + 65536 - y) % 65536) }
+        ensures alone { (x y : ℕ) → self.now ≡ single x → other.now ≡ single y
+            → result ≡ single ((x + 65536 - y) % 65536) }
     {
         Vs16 {
             form: sets::sub(MODULUS, &self.form, &other.form),
@@ -238,8 +240,10 @@ impl Vs16 {
         requires few { length (members 65536 first.now) * (length (members 65536 second.now) * length (members 65536 carry.now)) ≤ 256 }
         ensures value { result ≡ calls.combine 65536 (O.answer operation.now) first.now second.now carry.now }
         ensures normal { IsNormal 65536 result }
-        ensures holds { (x y z : ℕ) → Has 65536 first.now x → Has 65536 second.now y → Has 65536 carry.now z → Has 65536 result (O.answer operation.now x y z) }
-        ensures alone { (x y z : ℕ) → first.now ≡ single x → second.now ≡ single y → carry.now ≡ single z → result ≡ single (O.answer operation.now x y z) }
+        ensures holds { (x y z : ℕ) → Has 65536 first.now x → Has 65536 second.now y → Has 65536 carry.now z
+            → Has 65536 result (O.answer operation.now x y z) }
+        ensures alone { (x y z : ℕ) → first.now ≡ single x → second.now ≡ single y → carry.now ≡ single z
+            → result ≡ single (O.answer operation.now x y z) }
     {
         Vs16 {
             form: sets::combine(MODULUS, operation, &first.form, &second.form, &carry.form),

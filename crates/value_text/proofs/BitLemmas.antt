@@ -47,7 +47,8 @@ row_bad : (front rest : List ℕ) (b : ℕ) → bit_of b ≡ None → row_of (fr
 row_bad [] rest b e = rw e refl
 row_bad (first ∷ front) rest b e = rw (row_bad front rest b e) (none_behind (bit_of first))
 
-row_more : (text : List ℕ) (i : ℕ) (bits : List Tri) (bit : Tri) → i < length text → row_of (take i text) ≡ Some bits → bit_of (get_or text i 0) ≡ Some bit
+row_more : (text : List ℕ) (i : ℕ) (bits : List Tri) (bit : Tri) → i < length text → row_of (take i text) ≡ Some bits
+    → bit_of (get_or text i 0) ≡ Some bit
     → row_of (take (i + 1) text) ≡ Some (bits ++ bit ∷ [])
 row_more text i bits bit inside so_far is =
     ap row_of (take_more text i 0 inside) ∙ ap (values_of bit_field.value) (map-append (λ b. b ∷ []) (take i text) (get_or text i 0 ∷ []))
@@ -56,7 +57,8 @@ row_more text i bits bit inside so_far is =
 
 -- THE LOOP
 
-pub bits_start : (count : ℕ) (bits : List Tri) (text : List ℕ) → length bits ≡ count → row_of (take 0 text) ≡ Some (reverse (drop (count - 0) bits))
+pub bits_start : (count : ℕ) (bits : List Tri) (text : List ℕ) → length bits ≡ count
+    → row_of (take 0 text) ≡ Some (reverse (drop (count - 0) bits))
 bits_start count bits text all = ap (λ higher. Some (reverse higher)) (sym (drop_of_length-le bits (omega (arith, all))))
 
 pub bits_step : (count i : ℕ) (bits : List Tri) (text : List ℕ) (bit : Tri) → length bits ≡ count → length text ≡ count → i < count
@@ -69,7 +71,8 @@ bits_step count i bits text bit all long less so_far is =
     row_more text i (reverse (drop (count - i) bits)) bit (omega (arith, long, less)) so_far (sym is)
     ∙ ap Some (sym (reverse-append (bit ∷ []) (drop (count - i) bits)) ∙ ap reverse (sym put))
 
-pub bits_bad : (count i : ℕ) (text : List ℕ) → length text ≡ count → i < count → None ≡ bit_of (get_or text i 0) → None ≡ (bits_field count).value text
+pub bits_bad : (count i : ℕ) (text : List ℕ) → length text ≡ count → i < count → None ≡ bit_of (get_or text i 0)
+    → None ≡ (bits_field count).value text
 bits_bad count i text long less is =
     let whole = sym (take-append-drop i text) ∙ ap (λ rest. take i text ++ rest) (drop_more text i 0 (omega (arith, long, less))) in
     let none = ap row_of whole ∙ row_bad (take i text) (drop (i + 1) text) (get_or text i 0) (sym is) in

@@ -15,7 +15,8 @@ room : (b : Bool) → (b && true) ≡ b
 room true = refl
 room false = refl
 
-behind_many : (digits : ℕ) (values rest : List ℕ) (more : Option (List ℕ)) → length values ≡ 16 → (listed (hex_number digits) 44).value rest ≡ more
+behind_many : (digits : ℕ) (values rest : List ℕ) (more : Option (List ℕ)) → length values ≡ 16
+    → (listed (hex_number digits) 44).value rest ≡ more
     → option_and_then (λ xs. if is_list xs then Some xs else None) (option_map (λ xs. values ++ xs) more) ≡ None
 behind_many digits values rest None many e = refl
 behind_many digits values rest (Some xs) many e =
@@ -44,8 +45,10 @@ the_list digits values text few is =
     ∙ ap (λ b. if b then Some values else None) (room (ascends 0 values))
 
 -- the last number, and the test of all
-pub tested : (digits : ℕ) (values longer text : List ℕ) (value : ℕ) → length values ≤ 16 → (length values ≡ 16 → ⊥) → longer ≡ values ++ value ∷ []
-    → (listed (hex_number digits) 44).value text ≡ Some longer → (if ascends 0 longer then Some longer else None) ≡ (list_field digits).value text
+pub tested : (digits : ℕ) (values longer text : List ℕ) (value : ℕ) → length values ≤ 16 → (length values ≡ 16 → ⊥)
+    → longer ≡ values ++ value ∷ []
+    → (listed (hex_number digits) 44).value text ≡ Some longer
+    → (if ascends 0 longer then Some longer else None) ≡ (list_field digits).value text
 tested digits values longer text value few other pushed is =
     let long : length longer ≡ length values + 1 = ap length pushed ∙ omega (arith, length-append values (value ∷ [])) in
     sym (the_list digits longer text (omega (arith, long, few, other)) is)

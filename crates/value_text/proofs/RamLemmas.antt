@@ -40,7 +40,8 @@ left_first [] = refl
 left_first (cell ∷ cells) = rw (le-ltb cell.place 0 (omega arith)) refl
 
 -- the next cell stands behind all that are passed
-next_low : (lo hi low from : ℕ) (cells : List Cell) (cell : Cell) → AreCells lo hi low cells → next cells from ≡ Some cell → low ≤ cell.place
+next_low : (lo hi low from : ℕ) (cells : List Cell) (cell : Cell) → AreCells lo hi low cells
+    → next cells from ≡ Some cell → low ≤ cell.place
 next_low lo hi low from [] cell are is = absurd (none-some cell is)
 next_low lo hi low from (first ∷ cells) cell are is = elim (cases_Bool (nat_lt first.place from)) [
   | inl before ↦ omega (arith, are.1, next_low lo hi (first.place + first.size) from cells cell are.2 (rw before at is))
@@ -86,7 +87,8 @@ nothing_found (Some cell) e = absurd (none-some (found_of cell) e)
 -- WRITING THEIR TEXTS
 
 -- the first cell
-pub texts_begin : (s : Spelling Cell) (map : CellMap) (place size : ℕ) (word : Word) (old out : List ℕ) → AreCells map.lo map.hi map.lo map.cells
+pub texts_begin : (s : Spelling Cell) (map : CellMap) (place size : ℕ) (word : Word) (old out : List ℕ)
+    → AreCells map.lo map.hi map.lo map.cells
     → Some (place, size, word) ≡ option_map found_of (next map.cells 0) → out ≡ old ++ s.text (the_cell place size word)
     → out ++ others_text s 59 (left (place + size) map.cells) ≡ old ++ (listed s 59).text map.cells
 texts_begin s map place size word old out are is pushed =
@@ -153,7 +155,8 @@ written_last lo hi cell cells top is ends =
     let high : nat_lt hi (cell.place + cell.size - 1) ≡ false = le-ltb hi (cell.place + cell.size - 1) (omega (arith, is.high)) in
     rw (none_met cell.place cell.size cells (omega (arith, is.high, top)) ends, low, high, is.says, insert_last cell cells ends) refl
 
-from_low : (lo hi from i : ℕ) (cells : List Cell) (other : Cell) → AreCells lo hi from cells → i < length cells → from ≤ (get_or cells i other).place
+from_low : (lo hi from i : ℕ) (cells : List Cell) (other : Cell) → AreCells lo hi from cells → i < length cells
+    → from ≤ (get_or cells i other).place
 from_low lo hi from i [] other are inside = absurd (omega (arith, inside))
 from_low lo hi from zero (cell ∷ cells) other are inside = are.1
 from_low lo hi from (suc i) (cell ∷ cells) other are inside =
@@ -168,7 +171,8 @@ end_by lo hi from (suc i) (cell ∷ cells) other are inside = (
   end_by lo hi (cell.place + cell.size) i cells other are.2 (omega (arith, inside)),
 )
 
-pub cell_at : (lo hi from i : ℕ) (cells : List Cell) (other : Cell) → AreCells lo hi from cells → i < length cells → IsCell lo hi (get_or cells i other)
+pub cell_at : (lo hi from i : ℕ) (cells : List Cell) (other : Cell) → AreCells lo hi from cells → i < length cells
+    → IsCell lo hi (get_or cells i other)
 cell_at lo hi from i [] other are inside = absurd (omega (arith, inside))
 cell_at lo hi from zero (cell ∷ cells) other are inside = are.0
 cell_at lo hi from (suc i) (cell ∷ cells) other are inside = cell_at lo hi (cell.place + cell.size) i cells other are.2 (omega (arith, inside))
@@ -220,9 +224,11 @@ pub byte_at : (lo hi i : ℕ) (cells : List Cell) (cell : Cell) → AreCells lo 
 byte_at lo hi i cells cell are inside is =
     subst (λ (c : Cell). c.size ≡ 1 → (v : ℕ) → Has 65536 c.word.set v → v < 256) is (cell_at lo hi lo i cells cell are inside).byte
 
-pub written_after : (lo hi i : ℕ) (cells : List Cell) (cell : Cell) (before after : CellMap) → hi < 65536 → AreCells lo hi lo cells → i < length cells
+pub written_after : (lo hi i : ℕ) (cells : List Cell) (cell : Cell) (before after : CellMap) → hi < 65536
+    → AreCells lo hi lo cells → i < length cells
     → get_or cells i cell ≡ cell
-    → before ≡ map_of lo hi (take i cells) → after ≡ write_one before cell.place cell.size cell.word → after ≡ map_of lo hi (take (i + 1) cells)
+    → before ≡ map_of lo hi (take i cells) → after ≡ write_one before cell.place cell.size cell.word
+    → after ≡ map_of lo hi (take (i + 1) cells)
 written_after lo hi i cells cell before after top are inside is so_far written =
     written ∙ ap (λ (map : CellMap). write_one map cell.place cell.size cell.word) so_far
     ∙ ap (λ (c : Cell). write_one (map_of lo hi (take i cells)) c.place c.size c.word) (sym is)

@@ -9,7 +9,8 @@ use Rattle.text_fields.specs.Numbers.{IsWidth}
 use Rattle.text_fields.specs.Spelling.{Spelling, IsExact, has_byte}
 use Rattle.value_text.specs.Sets.{form_of, list_field, part_of, run_field, set_field, set_is_exact}
 
-pub read_has_form : {A : Type 0} (s : Spelling A) (text : List ℕ) (result : Option A) → IsExact s → result ≡ s.value text → IfSome result s.Form
+pub read_has_form : {A : Type 0} (s : Spelling A) (text : List ℕ) (result : Option A) → IsExact s
+    → result ≡ s.value text → IfSome result s.Form
 read_has_form s text None h e = tt
 read_has_form s text (Some a) h e = (h.only text a (sym e)).0
 
@@ -29,7 +30,8 @@ wide : (digits : ℕ) → IsWidth digits → 2 ≤ digits
 wide digits (inl two) = omega (arith, two)
 wide digits (inr four) = omega (arith, four)
 
-pub part_normal : (digits : ℕ) (text : List ℕ) (result : Option Form) → IsWidth digits → bytes_eq text (codes "*") ≡ false → result ≡ part_of digits text
+pub part_normal : (digits : ℕ) (text : List ℕ) (result : Option Form) → IsWidth digits
+    → bytes_eq text (codes "*") ≡ false → result ≡ part_of digits text
     → IfSome result (IsNormal (16 ^ digits))
 part_normal digits text result width other is = read_has_form (set_field digits) text result (set_is_exact digits (wide digits width))
     (is ∙ sym (set_part digits text other))

@@ -47,7 +47,8 @@ cell_field digits place framed test = passing (told_by
 
 -- a cell of any kind
 abbrev pub any_cell : (digits : ℕ) → Spelling ℕ → (framed : Bool) → List ℕ → Option Cell
-any_cell digits place framed text = option_map cell_of ((beside 58 (beside 46 (hex_number digits) size_field) (word_field digits place framed)).value text)
+any_cell digits place framed text =
+    option_map cell_of ((beside 58 (beside 46 (hex_number digits) size_field) (word_field digits place framed)).value text)
 
 -- each cell passes the test, and has a relation of the frame
 abbrev pub AreRelated : (digits : ℕ) → (IsPlace : ℕ → Type 0) → (framed : Bool) → (Cell → Bool) → List Cell → Type 0
@@ -96,7 +97,8 @@ not-back true e = absurd (true≢false e)
 not-back false e = refl
 
 -- with a size of one or two, and a set in its one form, it is a cell
-pub cell_only : (lo hi : ℕ) (cell : Cell) → (cell.size ≡ 1) ⊎ (cell.size ≡ 2) → IsNormal 65536 cell.word.set → is_cell lo hi cell ≡ true → IsCell lo hi cell
+pub cell_only : (lo hi : ℕ) (cell : Cell) → (cell.size ≡ 1) ⊎ (cell.size ≡ 2) → IsNormal 65536 cell.word.set
+    → is_cell lo hi cell ≡ true → IsCell lo hi cell
 cell_only lo hi cell size normal test =
     let one = and_parts (nat_le lo cell.place) _ test in
     let two = and_parts (nat_le (cell.place + cell.size) (hi + 1)) _ one.1 in
@@ -119,15 +121,18 @@ cell_back lo hi cell is =
     (not-back (is_nothing cell.size cell.word) is.says)))
 
 size_only : (size : ℕ) → ((size == 1) || (size == 2)) ≡ true → (size ≡ 1) ⊎ (size ≡ 2)
-size_only size test = elim (or_cases (size == 1) (size == 2) test) [ inl one ↦ inl (eqb-true size 1 one) | inr two ↦ inr (eqb-true size 2 two) ]
+size_only size test =
+    elim (or_cases (size == 1) (size == 2) test) [ inl one ↦ inl (eqb-true size 1 one) | inr two ↦ inr (eqb-true size 2 two) ]
 
 size_back : (size : ℕ) → (size ≡ 1) ⊎ (size ≡ 2) → size_field.Form size
 size_back size (inl one) = rw one (omega arith, refl)
 size_back size (inr two) = rw two (omega arith, refl)
 
-pub cells_back : (digits : ℕ) (place : Spelling ℕ) (framed : Bool) (test : Cell → Bool) (lo hi from : ℕ) → hi < 16 ^ digits → (cells : List Cell)
+pub cells_back : (digits : ℕ) (place : Spelling ℕ) (framed : Bool) (test : Cell → Bool) (lo hi from : ℕ)
+    → hi < 16 ^ digits → (cells : List Cell)
     → AreCells lo hi from cells
-    → AreRelated digits place.Form framed test cells → AllByRecursion (cell_field digits place framed test).Form cells × (are_cells lo hi from cells ≡ true)
+    → AreRelated digits place.Form framed test cells
+    → AllByRecursion (cell_field digits place framed test).Form cells × (are_cells lo hi from cells ≡ true)
 cells_back digits place framed test lo hi from below [] are related = (tt, refl)
 cells_back digits place framed test lo hi from below (cell ∷ cells) are related =
     let is = are.0 in
@@ -157,10 +162,12 @@ size_avoids : (at : ℕ) → is_digit at ≡ false → Avoids size_field at
 size_avoids at no_digit = passing_avoids (hex_number 1) (λ size. (size == 1) || (size == 2)) at (number_avoids 1 at no_digit)
 
 at_is_exact : (digits : ℕ) → IsExact (beside 46 (hex_number digits) size_field)
-at_is_exact digits = beside_is_exact 46 (hex_number digits) size_field (hex_number_is_exact digits) size_is_exact (number_avoids digits 46 refl)
+at_is_exact digits =
+    beside_is_exact 46 (hex_number digits) size_field (hex_number_is_exact digits) size_is_exact (number_avoids digits 46 refl)
 
 at_avoids : (digits at : ℕ) → is_digit at ≡ false → (46 == at) ≡ false → Avoids (beside 46 (hex_number digits) size_field) at
-at_avoids digits at no_digit no_dot = beside_avoids 46 at (hex_number digits) size_field no_dot (number_avoids digits at no_digit) (size_avoids at no_digit)
+at_avoids digits at no_digit no_dot =
+    beside_avoids 46 at (hex_number digits) size_field no_dot (number_avoids digits at no_digit) (size_avoids at no_digit)
 
 pub cell_is_exact : (digits : ℕ) (place : Spelling ℕ) (framed : Bool) (test : Cell → Bool) → IsExact place → Avoids place 38
     → IsExact (cell_field digits place framed test)
@@ -172,7 +179,8 @@ cell_is_exact digits place framed test h apart =
     (word_is_exact digits place framed h apart) (at_avoids digits 58 refl refl))
     (λ parts form. refl))
 
-cell_avoids : (digits : ℕ) (place : Spelling ℕ) (framed : Bool) (test : Cell → Bool) (at : ℕ) → is_digit at ≡ false → (46 == at) ≡ false → (58 == at) ≡ false
+cell_avoids : (digits : ℕ) (place : Spelling ℕ) (framed : Bool) (test : Cell → Bool) (at : ℕ) → is_digit at ≡ false
+    → (46 == at) ≡ false → (58 == at) ≡ false
     → is_word_byte at ≡ false → Avoids place at
     → Avoids (cell_field digits place framed test) at
 cell_avoids digits place framed test at no_digit no_dot no_colon no_word apart =
@@ -182,13 +190,15 @@ cell_avoids digits place framed test at no_digit no_dot no_colon no_word apart =
     (beside_avoids 58 at (beside 46 (hex_number digits) size_field) (word_field digits place framed) no_colon (at_avoids digits at no_digit no_dot)
     (word_avoids digits place framed at no_word apart)))
 
-cell_has_dot : (digits : ℕ) (place : Spelling ℕ) (framed : Bool) (test : Cell → Bool) (cell : Cell) → (cell_field digits place framed test).Form cell
+cell_has_dot : (digits : ℕ) (place : Spelling ℕ) (framed : Bool) (test : Cell → Bool) (cell : Cell)
+    → (cell_field digits place framed test).Form cell
     → has_byte 46 ((cell_field digits place framed test).text cell) ≡ true
 cell_has_dot digits place framed test cell form =
     has_byte-left 46 (hex digits cell.place ++ 46 ∷ size_field.text cell.size) (58 ∷ (word_field digits place framed).text cell.word)
     (has_byte-at 46 (hex digits cell.place) (size_field.text cell.size))
 
-pub cells_is_exact : (digits : ℕ) (place : Spelling ℕ) (framed : Bool) (test : Cell → Bool) (lo hi : ℕ) → hi < 16 ^ digits → IsExact place → Avoids place 38
+pub cells_is_exact : (digits : ℕ) (place : Spelling ℕ) (framed : Bool) (test : Cell → Bool) (lo hi : ℕ)
+    → hi < 16 ^ digits → IsExact place → Avoids place 38
     → Avoids place 59
     → IsExact (cells_field digits place framed test lo hi)
 cells_is_exact digits place framed test lo hi below h no_and no_semicolon =
@@ -202,7 +212,8 @@ cells_is_exact digits place framed test lo hi below h no_and no_semicolon =
     (λ cells are. cells_back digits place framed test lo hi lo below cells are.0 are.1)
     (λ cells form. cells_only digits place framed test lo hi lo cells form.0 form.1)
 
-cells_byte_parts : (at : ℕ) → is_cells_byte at ≡ false → (is_word_byte at ≡ false) × ((46 == at) ≡ false) × ((58 == at) ≡ false) × ((59 == at) ≡ false)
+cells_byte_parts : (at : ℕ) → is_cells_byte at ≡ false
+    → (is_word_byte at ≡ false) × ((46 == at) ≡ false) × ((58 == at) ≡ false) × ((59 == at) ≡ false)
     × ((45 == at) ≡ false)
 cells_byte_parts at none =
     let last = neither (is_word_byte at || (46 == at) || (58 == at) || (59 == at)) (45 == at) none in
@@ -211,7 +222,8 @@ cells_byte_parts at none =
     let first = neither (is_word_byte at) (46 == at) third.0 in
     (first.0, first.1, third.1, fourth.1, last.1)
 
-pub cells_avoids : (digits : ℕ) (place : Spelling ℕ) (framed : Bool) (test : Cell → Bool) (lo hi at : ℕ) → hi < 16 ^ digits → is_cells_byte at ≡ false
+pub cells_avoids : (digits : ℕ) (place : Spelling ℕ) (framed : Bool) (test : Cell → Bool) (lo hi at : ℕ)
+    → hi < 16 ^ digits → is_cells_byte at ≡ false
     → Avoids place at → Avoids (cells_field digits place framed test lo hi) at
 cells_avoids digits place framed test lo hi at below none apart =
     let parts = cells_byte_parts at none in

@@ -22,7 +22,8 @@ is_even_set (Run run) = (run.base % 2 == 0) && (run.stride % 2 == 0)
 
 -- LISTS
 
-each_at : (test : ℕ → Bool) (values : List ℕ) (k v : ℕ) → list_all test values ≡ true → k < length values → slice_index_or values k v ≡ v → test v ≡ true
+each_at : (test : ℕ → Bool) (values : List ℕ) (k v : ℕ) → list_all test values ≡ true → k < length values
+    → slice_index_or values k v ≡ v → test v ≡ true
 each_at test [] k v all inside is = absurd (omega (arith, inside))
 each_at test (x ∷ xs) zero v all inside is = subst (λ y. test y ≡ true) is (and_parts (test x) (list_all test xs) all).0
 each_at test (x ∷ xs) (suc k) v all inside is = each_at test xs k v (and_parts (test x) (list_all test xs) all).1 (omega (arith, inside)) is
@@ -52,7 +53,8 @@ below_only base stride count v small has =
     omega (arith, is, near, small, reach)
 
 -- such a run never goes round
-below_step : (base stride count : ℕ) → IsNormalRun 65536 base stride count → ((v : ℕ) → Contains (steps 65536 base stride count) v → v < 256) → (i : ℕ)
+below_step : (base stride count : ℕ) → IsNormalRun 65536 base stride count
+    → ((v : ℕ) → Contains (steps 65536 base stride count) v → v < 256) → (i : ℕ)
     → i < count → base + i * stride < 256
 below_step base stride count normal all zero inside =
     let near : (base + 0 * stride) % 65536 ≡ base + 0 * stride = mod-eq_of_lt (omega (arith, normal.below)) in
@@ -65,7 +67,8 @@ below_step base stride count normal all (suc i) inside =
 
 pub bytes_only : (set : Form) → is_byte_set set ≡ true → (v : ℕ) → Has 65536 set v → v < 256
 bytes_only (Values values) test v has = ltb-true v 256 (each_only (λ x. nat_lt x 256) values test v has)
-bytes_only (Run run) test v has = below_only run.base run.stride run.count v (ltb-true (run.base + (run.count - 1) * run.stride) 256 test) has
+bytes_only (Run run) test v has =
+    below_only run.base run.stride run.count v (ltb-true (run.base + (run.count - 1) * run.stride) 256 test) has
 
 pub bytes_back : (set : Form) → IsNormal 65536 set → ((v : ℕ) → Has 65536 set v → v < 256) → is_byte_set set ≡ true
 bytes_back (Values values) normal all = each_back (λ x. nat_lt x 256) values (λ v has. lt-ltb v 256 (all v has))

@@ -25,7 +25,8 @@ AreTouched framed lo hi ranges = AreRanges lo hi ranges × (framed ≡ false →
 
 -- touched ranges, of which there are some in an interrupt's frame alone
 abbrev pub touched_field : (digits : ℕ) → (framed : Bool) → (lo hi : ℕ) → Spelling (List (ℕ × ℕ))
-touched_field digits framed lo hi = restated (passing (ranges_field digits lo hi) (λ ranges. framed || is_empty ranges)) (AreTouched framed lo hi)
+touched_field digits framed lo hi =
+    restated (passing (ranges_field digits lo hi) (λ ranges. framed || is_empty ranges)) (AreTouched framed lo hi)
 
 abbrev pub cells_named : Spelling (List Cell) → Spelling (List Cell)
 cells_named cells = named cells (codes "M=")

@@ -13,7 +13,8 @@ use Rattle.text_fields.specs.Lists.{listed, listed_longer, listed_or_mark, liste
 -- ranges from an address on to another, which ascend and neither overlap nor touch
 abbrev pub are_ranges : (from hi : ℕ) → List (ℕ × ℕ) → Bool
 are_ranges from hi [] = true
-are_ranges from hi (range ∷ ranges) = nat_le from range.0 && (nat_le range.0 range.1 && (nat_le range.1 hi && are_ranges (range.1 + 2) hi ranges))
+are_ranges from hi (range ∷ ranges) =
+    nat_le from range.0 && (nat_le range.0 range.1 && (nat_le range.1 hi && are_ranges (range.1 + 2) hi ranges))
 
 -- addresses of so many digits
 abbrev pub range_field : (digits : ℕ) → Spelling (ℕ × ℕ)
@@ -43,7 +44,8 @@ ranges_back from hi (range ∷ ranges) are =
     (and_from (nat_le range.0 range.1) _ (le-leb range.0 range.1 are.1)
     (and_from (nat_le range.1 hi) _ (le-leb range.1 hi are.2) (ranges_back (range.1 + 2) hi ranges are.3)))
 
-pub range_forms : (digits from hi : ℕ) (ranges : List (ℕ × ℕ)) → hi < 16 ^ digits → AreRanges from hi ranges → AllByRecursion (range_field digits).Form ranges
+pub range_forms : (digits from hi : ℕ) (ranges : List (ℕ × ℕ)) → hi < 16 ^ digits → AreRanges from hi ranges
+    → AllByRecursion (range_field digits).Form ranges
 range_forms digits from hi [] below are = tt
 range_forms digits from hi (range ∷ ranges) below are =
     ((omega (arith, are.1, are.2), omega (arith, are.2)), range_forms digits (range.1 + 2) hi ranges below are.3)
@@ -53,7 +55,8 @@ range_is_exact digits = beside_is_exact 45 (hex_number digits) (hex_number digit
     (number_avoids digits 45 refl)
 
 range_avoids : (digits at : ℕ) → is_digit at ≡ false → (45 == at) ≡ false → Avoids (range_field digits) at
-range_avoids digits at no_digit no_dash = beside_avoids 45 at (hex_number digits) (hex_number digits) no_dash (number_avoids digits at no_digit)
+range_avoids digits at no_digit no_dash =
+    beside_avoids 45 at (hex_number digits) (hex_number digits) no_dash (number_avoids digits at no_digit)
     (number_avoids digits at no_digit)
 
 -- a range is longer than a dash

@@ -47,7 +47,8 @@ at_least : (k s t : ℕ) → t ≤ s → k * t ≤ k * s
 at_least zero s t h = omega arith
 at_least (suc k) s t h = omega (arith, at_least k s t h)
 
-pub run_only : (m base stride count : ℕ) → base < m → 1 ≤ stride → is_run m base stride count ≡ true → IsNormalRun m base stride count × ((count == m) ≡ false)
+pub run_only : (m base stride count : ℕ) → base < m → 1 ≤ stride → is_run m base stride count ≡ true
+    → IsNormalRun m base stride count × ((count == m) ≡ false)
 run_only m base stride count below strides test =
     let long : 17 ≤ count = grind (arith, nat_tests, test) in
     let more = one_more count stride (omega (arith, long)) in (

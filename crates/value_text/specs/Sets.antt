@@ -75,7 +75,8 @@ list_is_exact digits = passing_is_exact (listed (hex_number digits) 44) is_list
     (listed_is_exact (hex_number digits) 44 (hex_number_is_exact digits) (number_avoids digits 44 refl))
 
 steps_is_exact : (digits : ℕ) → IsExact (steps_field digits)
-steps_is_exact digits = beside_is_exact 47 (short_number digits) (short_number digits) (short_number_is_exact digits) (short_number_is_exact digits)
+steps_is_exact digits =
+    beside_is_exact 47 (short_number digits) (short_number digits) (short_number_is_exact digits) (short_number_is_exact digits)
     (short_avoids digits 47 refl)
 
 run_is_exact : (digits : ℕ) → IsExact (run_field digits)
@@ -96,8 +97,10 @@ run_avoids digits at no_digit no_slash =
 run_has_slash : (digits : ℕ) (run : ℕ × (ℕ × ℕ)) → (run_field digits).Form run → has_byte 47 ((run_field digits).text run) ≡ true
 run_has_slash digits run form = has_byte-at 47 (hex digits run.0) ((steps_field digits).text run.1)
 
-one_avoids : (digits at : ℕ) → is_digit at ≡ false → (44 == at) ≡ false → (47 == at) ≡ false → Avoids (either 47 (run_field digits) (list_field digits)) at
-one_avoids digits at no_digit no_comma no_slash = either_avoids 47 at (run_field digits) (list_field digits) (run_avoids digits at no_digit no_slash)
+one_avoids : (digits at : ℕ) → is_digit at ≡ false → (44 == at) ≡ false → (47 == at) ≡ false
+    → Avoids (either 47 (run_field digits) (list_field digits)) at
+one_avoids digits at no_digit no_comma no_slash =
+    either_avoids 47 at (run_field digits) (list_field digits) (run_avoids digits at no_digit no_slash)
     (list_avoids digits at no_digit no_comma)
 
 parts_is_exact : (digits : ℕ) → IsExact (parts_field digits)
@@ -191,7 +194,8 @@ set_is_exact digits two =
     (form_narrow digits two) (form_wide digits two))
     (same_text digits)
 
-set_byte_parts : (at : ℕ) → is_set_byte at ≡ false → (is_digit at ≡ false) × ((42 == at) ≡ false) × ((44 == at) ≡ false) × ((47 == at) ≡ false)
+set_byte_parts : (at : ℕ) → is_set_byte at ≡ false
+    → (is_digit at ≡ false) × ((42 == at) ≡ false) × ((44 == at) ≡ false) × ((47 == at) ≡ false)
 set_byte_parts at none =
     let last = neither (is_digit at || (42 == at) || (44 == at)) (47 == at) none in
     let third = neither (is_digit at || (42 == at)) (44 == at) last.0 in

@@ -37,13 +37,15 @@ HasRelation digits IsPlace true (Some entry) = IsPlace entry.place × (entry.and
 
 -- a set, and perhaps a relation where the frame is one of an interrupt
 abbrev pub remembering : (width digits : ℕ) → Spelling ℕ → (framed : Bool) → Spelling (Form × Option Entry)
-remembering width digits place framed = passing (with_tail 64 (set_field width) (relation_field digits place)) (λ parts. framed || is_none parts.1)
+remembering width digits place framed =
+    passing (with_tail 64 (set_field width) (relation_field digits place)) (λ parts. framed || is_none parts.1)
 
 abbrev pub IsValueIn : (m digits : ℕ) → (IsPlace : ℕ → Type 0) → (framed : Bool) → Form × Option Entry → Type 0
 IsValueIn m digits IsPlace framed parts = IsNormal m parts.0 × HasRelation digits IsPlace framed parts.1
 
 -- a value of a set below m, which has so many digits, and perhaps a relation
-abbrev pub value_field : {A : Type 0} → (width m digits : ℕ) → Spelling ℕ → (framed : Bool) → (Form × Option Entry → A) → (A → Form × Option Entry) → Spelling A
+abbrev pub value_field : {A : Type 0} → (width m digits : ℕ) → Spelling ℕ → (framed : Bool) → (Form × Option Entry → A)
+    → (A → Form × Option Entry) → Spelling A
 value_field width m digits place framed to from =
     restated (told_by (remembering width digits place framed) to from) (λ a. IsValueIn m digits place.Form framed (from a))
 
@@ -85,7 +87,8 @@ relation_is_exact digits place h apart =
     told_by_is_exact (beside 38 place (beside 124 (hex_number digits) (hex_number digits))) entry_of numbers_of
     (beside_is_exact 38 place (beside 124 (hex_number digits) (hex_number digits)) h masks apart) (λ numbers form. refl)
 
-pub relation_avoids : (digits : ℕ) (place : Spelling ℕ) (at : ℕ) → is_digit at ≡ false → (38 == at) ≡ false → (124 == at) ≡ false → Avoids place at
+pub relation_avoids : (digits : ℕ) (place : Spelling ℕ) (at : ℕ) → is_digit at ≡ false → (38 == at) ≡ false
+    → (124 == at) ≡ false → Avoids place at
     → Avoids (relation_field digits place) at
 relation_avoids digits place at no_digit no_and no_bar apart =
     told_by_avoids (beside 38 place (beside 124 (hex_number digits) (hex_number digits))) entry_of numbers_of at
@@ -99,7 +102,8 @@ remembering_is_exact width digits place framed two h apart =
     (with_tail_is_exact 64 (set_field width) (relation_field digits place) (set_is_exact width two) (relation_is_exact digits place h apart)
     (set_avoids width 64 two refl))
 
-pub word_byte_parts : (at : ℕ) → is_word_byte at ≡ false → (is_set_byte at ≡ false) × ((64 == at) ≡ false) × ((38 == at) ≡ false) × ((124 == at) ≡ false)
+pub word_byte_parts : (at : ℕ) → is_word_byte at ≡ false
+    → (is_set_byte at ≡ false) × ((64 == at) ≡ false) × ((38 == at) ≡ false) × ((124 == at) ≡ false)
 word_byte_parts at none =
     let last = neither (is_set_byte at || (64 == at) || (38 == at)) (124 == at) none in
     let third = neither (is_set_byte at || (64 == at)) (38 == at) last.0 in
@@ -110,7 +114,8 @@ pub no_digits : (at : ℕ) → is_set_byte at ≡ false → is_digit at ≡ fals
 no_digits at none = (neither (is_digit at) (42 == at)
     (neither (is_digit at || (42 == at)) (44 == at) (neither (is_digit at || (42 == at) || (44 == at)) (47 == at) none).0).0).0
 
-remembering_avoids : (width digits : ℕ) (place : Spelling ℕ) (framed : Bool) (at : ℕ) → 2 ≤ width → is_word_byte at ≡ false → Avoids place at
+remembering_avoids : (width digits : ℕ) (place : Spelling ℕ) (framed : Bool) (at : ℕ) → 2 ≤ width
+    → is_word_byte at ≡ false → Avoids place at
     → Avoids (remembering width digits place framed) at
 remembering_avoids width digits place framed at two none apart =
     let parts = word_byte_parts at none in
@@ -126,7 +131,8 @@ frame_back width digits place true None form = (tt, refl)
 frame_back width digits place false (Some entry) form = absurd form
 frame_back width digits place true (Some entry) form = (((form.0, (form.1, form.2)), refl), refl)
 
-pub frame_only : (width digits : ℕ) (place : Spelling ℕ) (framed : Bool) (entry : Option Entry) → IfForm (relation_field digits place).Form entry
+pub frame_only : (width digits : ℕ) (place : Spelling ℕ) (framed : Bool) (entry : Option Entry)
+    → IfForm (relation_field digits place).Form entry
     → (framed || is_none entry) ≡ true
     → HasRelation digits place.Form framed entry
 frame_only width digits place framed None form test = tt
@@ -135,10 +141,12 @@ frame_only width digits place true (Some entry) form test = (form.0.0, form.0.1.
 
 -- a value is made of its parts, which are those of the value again
 module _ {A : Type 0} (width digits : ℕ) (place : Spelling ℕ) (framed : Bool) (to : Form × Option Entry → A) (from : A → Form × Option Entry) (again : (a : A) → to (from a) ≡ a) where
-  value_narrow : (a : A) → IsValueIn (16 ^ width) digits place.Form framed (from a) → (told_by (remembering width digits place framed) to from).Form a
+  value_narrow : (a : A) → IsValueIn (16 ^ width) digits place.Form framed (from a)
+      → (told_by (remembering width digits place framed) to from).Form a
   value_narrow a form = let back = frame_back width digits place framed (from a).1 form.1 in (((form.0, back.0), back.1), again a)
 
-  value_wide : (a : A) → (told_by (remembering width digits place framed) to from).Form a → IsValueIn (16 ^ width) digits place.Form framed (from a)
+  value_wide : (a : A) → (told_by (remembering width digits place framed) to from).Form a
+      → IsValueIn (16 ^ width) digits place.Form framed (from a)
   value_wide a form = (form.0.0.0, frame_only width digits place framed (from a).1 form.0.0.1 form.0.1)
 
   value_is_exact : ((parts : Form × Option Entry) → from (to parts) ≡ parts) → 2 ≤ width → IsExact place → Avoids place 38
@@ -148,17 +156,21 @@ module _ {A : Type 0} (width digits : ℕ) (place : Spelling ℕ) (framed : Bool
       (told_by_is_exact (remembering width digits place framed) to from (remembering_is_exact width digits place framed two h apart) (λ parts form. same parts))
       value_narrow value_wide
 
-  value_avoids : (at : ℕ) → 2 ≤ width → is_word_byte at ≡ false → Avoids place at → Avoids (value_field width (16 ^ width) digits place framed to from) at
+  value_avoids : (at : ℕ) → 2 ≤ width → is_word_byte at ≡ false → Avoids place at
+      → Avoids (value_field width (16 ^ width) digits place framed to from) at
   value_avoids at two none apart =
       restated_avoids (told_by (remembering width digits place framed) to from) (λ a. IsValueIn (16 ^ width) digits place.Form framed (from a)) at value_narrow
       (told_by_avoids (remembering width digits place framed) to from at (remembering_avoids width digits place framed at two none apart))
 
-pub word_is_exact : (digits : ℕ) (place : Spelling ℕ) (framed : Bool) → IsExact place → Avoids place 38 → IsExact (word_field digits place framed)
-word_is_exact digits place framed h apart = value_is_exact 4 digits place framed word_of word_parts (λ word. refl) (λ parts. refl) (omega arith) h apart
+pub word_is_exact : (digits : ℕ) (place : Spelling ℕ) (framed : Bool) → IsExact place → Avoids place 38
+    → IsExact (word_field digits place framed)
+word_is_exact digits place framed h apart =
+    value_is_exact 4 digits place framed word_of word_parts (λ word. refl) (λ parts. refl) (omega arith) h apart
 
 pub word_avoids : (digits : ℕ) (place : Spelling ℕ) (framed : Bool) (at : ℕ) → is_word_byte at ≡ false → Avoids place at
     → Avoids (word_field digits place framed) at
-word_avoids digits place framed at none apart = value_avoids 4 digits place framed word_of word_parts (λ word. refl) at (omega arith) none apart
+word_avoids digits place framed at none apart =
+    value_avoids 4 digits place framed word_of word_parts (λ word. refl) at (omega arith) none apart
 
 -- AS ITEMS OF A LINE
 
@@ -187,16 +199,19 @@ value_item width digits place framed to from again same two places = record {
 }
 
 pub word_item : (digits : ℕ) (place : Spelling ℕ) (framed : Bool) → ArePlaces place → IsItem (word_field digits place framed)
-word_item digits place framed places = value_item 4 digits place framed word_of word_parts (λ word. refl) (λ parts. refl) (omega arith) places
+word_item digits place framed places =
+    value_item 4 digits place framed word_of word_parts (λ word. refl) (λ parts. refl) (omega arith) places
 
 pub byte_item : (digits : ℕ) (place : Spelling ℕ) (framed : Bool) → ArePlaces place → IsItem (byte_field digits place framed)
-byte_item digits place framed places = value_item 2 digits place framed byte_of byte_parts (λ byte. refl) (λ parts. refl) (omega arith) places
+byte_item digits place framed places =
+    value_item 2 digits place framed byte_of byte_parts (λ byte. refl) (λ parts. refl) (omega arith) places
 
 -- bits, and perhaps a relation that passes a test
 abbrev pub bits_related : (digits : ℕ) → Spelling ℕ → Spelling (List Tri) → (Option Entry → Bool) → Spelling (List Tri × Option Entry)
 bits_related digits place bits test = passing (with_tail 64 bits (relation_field digits place)) (λ parts. test parts.1)
 
-pub bits_related_item : (digits : ℕ) (place : Spelling ℕ) (bits : Spelling (List Tri)) (test : Option Entry → Bool) → ArePlaces place → IsItem bits
+pub bits_related_item : (digits : ℕ) (place : Spelling ℕ) (bits : Spelling (List Tri)) (test : Option Entry → Bool)
+    → ArePlaces place → IsItem bits
     → Avoids bits 64 → IsItem (bits_related digits place bits test)
 bits_related_item digits place bits test places item apart =
     let relation = relation_item digits place places in

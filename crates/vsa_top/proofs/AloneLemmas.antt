@@ -50,7 +50,8 @@ finishes text_of m workers answered text journal alone is =
 analysed_same : {A : Type 0} (text_of : ℕ → List ℕ → List ℕ) (m : Analysis A) (workers : ℕ)
     → ((one other : List Event) → FinishesAlone m one → FinishesAlone m other → one ≡ other)
     → workers ≡ 1 → (other : Status) (report : List ℕ) (events : List Event) (answered : Status) (text : List ℕ) (journal : List Event)
-    → IsAnalysed text_of m workers other report events → IsAnalysed text_of m workers answered text journal → AreSame other report events answered text journal
+    → IsAnalysed text_of m workers other report events → IsAnalysed text_of m workers answered text journal
+    → AreSame other report events answered text journal
 analysed_same text_of m workers one alone other report events answered text journal that this =
     let same : events ≡ journal = one events journal (finishes text_of m workers other report events alone that)
     (finishes text_of m workers answered text journal alone this) in (
@@ -59,7 +60,8 @@ analysed_same text_of m workers one alone other report events answered text jour
       same,
     )
 
-on_same : AreOne msp430_analysis → AreOne mcs51_analysis → (target : Target) (limits : Limits) (workers : ℕ) (image : List (Option ℕ)) → workers ≡ 1
+on_same : AreOne msp430_analysis → AreOne mcs51_analysis
+    → (target : Target) (limits : Limits) (workers : ℕ) (image : List (Option ℕ)) → workers ≡ 1
     → (other : Status) (report : List ℕ) (events : List Event) (answered : Status) (text : List ℕ) (journal : List Event)
     → IsAnalysedOn target limits workers image other report events → IsAnalysedOn target limits workers image answered text journal
     → AreSame other report events answered text journal
@@ -104,7 +106,8 @@ reported_same text_of m texts workers cert one certs alone other written events 
 told_same : AreOne msp430_analysis → AreOne mcs51_analysis → CertsMsp430 → CertsMcs51
     → (target : Target) (limits : Limits) (workers : ℕ) (cert : Bool) (image : List (Option ℕ)) → workers ≡ 1
     → (other : Status) (written : List ℕ) (events : List Event) (answered : Status) (text : List ℕ) (journal : List Event)
-    → IsReportedOn target limits workers cert image other written events → IsReportedOn target limits workers cert image answered text journal
+    → IsReportedOn target limits workers cert image other written events
+    → IsReportedOn target limits workers cert image answered text journal
     → AreSame other written events answered text journal
 told_same msp430 mcs51 certs codes (Msp430 ram) limits workers cert image alone =
     let setting = msp430_setting ram limits image in
@@ -114,7 +117,8 @@ told_same msp430 mcs51 certs codes Mcs51 limits workers cert image alone =
     reported_same mcs51_text (mcs51_analysis setting) mcs51_texts workers cert (mcs51 setting) (codes setting) alone
 
 -- the replies to one image
-image_same : AreOne msp430_analysis → AreOne mcs51_analysis → CertsMsp430 → CertsMcs51 → (reading : Reading) (image : List (Option ℕ)) (second behind : Option (List ℕ))
+image_same : AreOne msp430_analysis → AreOne mcs51_analysis → CertsMsp430 → CertsMcs51
+    → (reading : Reading) (image : List (Option ℕ)) (second behind : Option (List ℕ))
     → WorksAlone reading
     → (other : Status) (report : List ℕ) (events : List Event) (answered : Status) (text : List ℕ) (journal : List Event)
     → IsImageReply reading image second other report events → IsImageReply reading image behind answered text journal
@@ -134,8 +138,10 @@ blank reading (of_input task alone) = refl
 blank reading (of_made chip number) = refl
 
 -- the image that a text gives is one
-one_image : HaveOneImage → (reading : Reading) → WorksAlone reading → (text : List ℕ) (second behind : Option (List ℕ)) (image other : List (Option ℕ))
-    → InputGives (rules_of reading) (tail_of reading) (Some text) second image → InputGives (rules_of reading) (tail_of reading) (Some text) behind other
+one_image : HaveOneImage → (reading : Reading) → WorksAlone reading
+    → (text : List ℕ) (second behind : Option (List ℕ)) (image other : List (Option ℕ))
+    → InputGives (rules_of reading) (tail_of reading) (Some text) second image
+    → InputGives (rules_of reading) (tail_of reading) (Some text) behind other
     → image ≡ other
 one_image one reading works text second behind image other gives more =
     let rules = rules_of reading in
@@ -159,9 +165,11 @@ not_long : (answered : Status) → TellsAnalysis answered → answered ≡ statu
 not_long answered (inl done) e = absurd (cc)
 not_long answered (inr left) e = absurd (cc)
 
-reply_same : AreOne msp430_analysis → AreOne mcs51_analysis → CertsMsp430 → CertsMcs51 → HaveOneImage → (reading : Reading) → WorksAlone reading → (input : List ℕ)
+reply_same : AreOne msp430_analysis → AreOne mcs51_analysis → CertsMsp430 → CertsMcs51 → HaveOneImage
+    → (reading : Reading) → WorksAlone reading → (input : List ℕ)
     → (other : Status) (report : List ℕ) (events : List Event) (answered : Status) (text : List ℕ) (journal : List Event)
-    → TellsAnalysis other → TellsAnalysis answered → IsReply reading (Some input) other report events → IsReply reading (Some input) answered text journal
+    → TellsAnalysis other → TellsAnalysis answered → IsReply reading (Some input) other report events
+    → IsReply reading (Some input) answered text journal
     → AreSame other report events answered text journal
 reply_same msp430 mcs51 certs codes one reading works input other report events answered text journal tells told (of_image image second gives that)
     (of_image image_so behind more this) =
@@ -181,7 +189,8 @@ reply_same msp430 mcs51 certs codes one reading works input other report events 
 
 pub one_reply : AreOne msp430_analysis → AreOne mcs51_analysis → CertsMsp430 → CertsMcs51 → HaveOneImage
     → (reading : Reading) (answered : Status) (input before after : Option (List ℕ)) (journal : List Event)
-    (text : List ℕ) → WorksAlone reading → Answers reading answered input before after journal → TellsAnalysis answered → input_of reading input ≡ Some text
+    (text : List ℕ) → WorksAlone reading → Answers reading answered input before after journal → TellsAnalysis answered
+    → input_of reading input ≡ Some text
     → IsOneReply reading (Some text) answered before after journal
 one_reply msp430 mcs51 certs codes one reading answered input before after journal text works answers tells e =
     let given = gives_reply reading answered input before after journal answers (no_fault answered tells) (has_room answered tells) in

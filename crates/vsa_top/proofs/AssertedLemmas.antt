@@ -36,7 +36,8 @@ use Rattle.analysis_limits.specs.declared.limits.Limits.{Limits}
 
 -- what a closed book of these works breaks is what its journal's book breaks
 pub decided_by : {A : Type 0} (text_of : ℕ → List ℕ → List ℕ) (m : Analysis A) (workers : ℕ) (list : List (ℕ × Assertion)) (journal told : List Event)
-    (works : List (WorkUnit × Work A)) (replied : Status) (text : List ℕ) → IsAnalysis m workers journal → are_closed (last_works m journal) ≡ true
+    (works : List (WorkUnit × Work A)) (replied : Status) (text : List ℕ) → IsAnalysis m workers journal
+    → are_closed (last_works m journal) ≡ true
     → works ≡ live_pairs (replay m journal)
     → replied ≡ status_of_broken (broken_of (item_line_of text_of) list (flat_map (λ (w : Work A). w.items) (values_of works)))
     → text ≡ broken_text (item_line_of text_of) (broken_of (item_line_of text_of) list (flat_map (λ (w : Work A). w.items) (values_of works)))
@@ -81,12 +82,14 @@ quiet_on Mcs51 limits workers image list replied text journal is = quiet_decisio
 -- THE TEXT BEHIND
 
 -- what holds of the text that was read, where it is the whole one
-pub if_whole : (second : Option (List ℕ)) (text : List ℕ) (P : List ℕ → Type 0) → IfSome second (λ whole. whole ≡ text) → P text → IfSome second P
+pub if_whole : (second : Option (List ℕ)) (text : List ℕ) (P : List ℕ → Type 0) → IfSome second (λ whole. whole ≡ text)
+    → P text → IfSome second P
 if_whole None text P same holds = tt
 if_whole (Some whole) text P same holds = subst P (sym same) holds
 
 -- a longer front makes a longer text
-pub longer_whole : (text : List ℕ) (left : Option (List ℕ)) → second_limit < length text → IfSome (begun_with text left) (λ whole. second_limit < length whole)
+pub longer_whole : (text : List ℕ) (left : Option (List ℕ)) → second_limit < length text
+    → IfSome (begun_with text left) (λ whole. second_limit < length whole)
 longer_whole text None longer = tt
 longer_whole text (Some left) longer = omega (arith, longer, length-append text left)
 
@@ -99,7 +102,8 @@ lacks : (spaces : List Space) (text : List ℕ) (error : AssertError) → length
 lacks spaces text (assert_error.Syntax line) fits tells = record { fits = fits; refused = tells }
 lacks spaces text assert_error.Memory fits tells = tt
 
-pub lacks_whole : (spaces : List Space) (second : Option (List ℕ)) (text : List ℕ) (error : AssertError) → IfSome second (λ whole. whole ≡ text)
+pub lacks_whole : (spaces : List Space) (second : Option (List ℕ)) (text : List ℕ) (error : AssertError)
+    → IfSome second (λ whole. whole ≡ text)
     → length text ≤ second_limit → Tells spaces text error → IfSome second (λ t. LacksAssertions spaces t (refusal_of error))
 lacks_whole spaces second text error same fits tells = if_whole second text (λ t. LacksAssertions spaces t (refusal_of error)) same (lacks spaces text error fits tells)
 

@@ -33,7 +33,8 @@ behind_is : (front second text : List ℕ) → text ≡ front ++ second → drop
 behind_is front second text joins = ap (drop (length front)) joins ∙ drop-append_seam front second
 
 -- an image text ends at the first place where it may
-not_shorter : (rules : Rules) (text : List ℕ) (image other : List (Option ℕ)) (second more : List ℕ) → (is : AreTexts rules text image second)
+not_shorter : (rules : Rules) (text : List ℕ) (image other : List (Option ℕ)) (second more : List ℕ)
+    → (is : AreTexts rules text image second)
     → (so : AreTexts rules text other more) → (second ≡ []) ⊎ HasEnded rules is.front → length is.front < length so.front → ⊥
 not_shorter rules text image other second more is so (inl none) less =
     let here : length text ≡ length is.front = ap length (is.whole ∙ ap (λ t. is.front ++ t) none) ∙ length-append is.front [] ∙ omega arith in
@@ -45,7 +46,8 @@ not_shorter rules text image other second more is so (inr ended) less =
     sym (take-append-le (length is.front) so.front more short) ∙ ap (take (length is.front)) (sym so.whole) ∙ front_is is.front second text is.whole in
     so.first (length is.front) less (subst (HasEnded rules) (sym same) ended)
 
-fronts_same : (rules : Rules) (text : List ℕ) (image other : List (Option ℕ)) (second more : List ℕ) → (is : AreTexts rules text image second)
+fronts_same : (rules : Rules) (text : List ℕ) (image other : List (Option ℕ)) (second more : List ℕ)
+    → (is : AreTexts rules text image second)
     → (so : AreTexts rules text other more) → length is.front ≡ length so.front
 fronts_same rules text image other second more is so = elim (cases_order (length is.front) (length so.front)) [
   | inl same ↦ same
@@ -54,7 +56,8 @@ fronts_same rules text image other second more is so = elim (cases_order (length
 ]
 
 -- the image and the second text that a text gives
-one_pair : HaveOneImage → (rules : Rules) (text : List ℕ) (image other : List (Option ℕ)) (second more : List ℕ) → AreTexts rules text image second
+one_pair : HaveOneImage → (rules : Rules) (text : List ℕ) (image other : List (Option ℕ)) (second more : List ℕ)
+    → AreTexts rules text image second
     → AreTexts rules text other more → (image ≡ other) × (second ≡ more)
 one_pair one rules text image other second more is so =
     let size = fronts_same rules text image other second more is so in
@@ -66,7 +69,9 @@ one_pair one rules text image other second more is so =
 
 -- THE ANSWER
 
-given_pair : HaveOneImage → (rules : Rules) (input second : Option (List ℕ)) (text certificate : List ℕ) (image other : List (Option ℕ)) → input ≡ Some text
+given_pair : HaveOneImage
+    → (rules : Rules) (input second : Option (List ℕ)) (text certificate : List ℕ) (image other : List (Option ℕ))
+    → input ≡ Some text
     → InputGives rules Second input second other → AreTexts rules text image certificate → (other ≡ image) × (second ≡ Some certificate)
 given_pair one rules None second text certificate image other e gives is = absurd (cc)
 given_pair one rules (Some read) second text certificate image other e gives is =
@@ -75,7 +80,8 @@ given_pair one rules (Some read) second text certificate image other e gives is 
     (both.0, gives.1 ∙ ap Some both.1)
 
 verdict_reply : HaveNotBoth → EndedStay → EndedAreFaultless → HaveOneImage → (task : Task) (answered : Status) (input : Option (List ℕ))
-    (told : List ℕ) (journal : List Event) (text certificate : List ℕ) (image : List (Option ℕ)) → IsReply (Check task) input answered told journal
+    (told : List ℕ) (journal : List Event) (text certificate : List ℕ) (image : List (Option ℕ))
+    → IsReply (Check task) input answered told journal
     → input ≡ Some text → Gives (target_rules task.target) Second text image certificate
     → IsCheckedOn task.target task.limits image (Some certificate) answered told
 verdict_reply both stay faultless one task answered input told journal text certificate image (of_image other second gives reply) e is =
@@ -89,9 +95,11 @@ verdict_reply both stay faultless one task answered input told journal text cert
     let rules = target_rules task.target in
     absurd (not_long stay rules Second text image certificate is (subst (λ i. IfSome i (IsTooLong rules Second)) e long))
 
-pub verdict_lem : HaveNotBoth → EndedStay → EndedAreFaultless → HaveOneImage → (task : Task) (answered : Status) (input before after : Option (List ℕ))
+pub verdict_lem : HaveNotBoth → EndedStay → EndedAreFaultless → HaveOneImage
+    → (task : Task) (answered : Status) (input before after : Option (List ℕ))
     (journal : List Event) (text certificate : List ℕ) (image : List (Option ℕ)) → Answers (Check task) answered input before after journal
-    → input ≡ Some text → Gives (target_rules task.target) Second text image certificate → (answered ≡ ReadFault → ⊥) → (answered ≡ WriteFault → ⊥)
+    → input ≡ Some text → Gives (target_rules task.target) Second text image certificate → (answered ≡ ReadFault → ⊥)
+    → (answered ≡ WriteFault → ⊥)
     → IsVerdictOn task image certificate answered before after ⊎ (answered ≡ Memory)
 verdict_lem both stay faultless one task answered input before after journal text certificate image (replied reply told is (whole same held)) e gives
     no_read no_write =

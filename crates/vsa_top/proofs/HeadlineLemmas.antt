@@ -76,7 +76,8 @@ pub record GivesReply (reading : Reading) (answered : Status) (input before afte
   pub held : after ≡ appended before text
 
 pub gives_reply : (reading : Reading) (answered : Status) (input before after : Option (List ℕ)) (journal : List Event)
-    → Answers reading answered input before after journal → TellsNoFault answered → (answered ≡ Memory → ⊥) → GivesReply reading answered input before after journal
+    → Answers reading answered input before after journal → TellsNoFault answered → (answered ≡ Memory → ⊥)
+    → GivesReply reading answered input before after journal
 gives_reply reading answered input before after journal (replied reply text is (whole same held)) quiet room = record {
   text = text;
   reply = subst (λ s. IsReply reading (input_of reading input) s text journal) (sym same) is;
@@ -109,7 +110,8 @@ ShowSites {B} program analysis = (base : B) (text_of : ℕ → List ℕ → List
     → are_closed (last_works (analysis base) journal) ≡ false
     → ShowsOpenSites (analysis base) journal (report_of_journal text_of (analysis base) journal)
 
-covers_of : {B S A : Type 0} (program : B → Type 0) (machine : B → Machine S) (analysis : B → Analysis A) → CoverRuns program machine analysis
+covers_of : {B S A : Type 0} (program : B → Type 0) (machine : B → Machine S) (analysis : B → Analysis A)
+    → CoverRuns program machine analysis
     → (base : B) (text_of : ℕ → List ℕ → List ℕ) (workers : ℕ) (report : List ℕ) (journal : List Event) → program base
     → IsAnalysed text_of (analysis base) workers Done report journal → CoversEveryRun (machine base) text_of report
 covers_of program machine analysis cover base text_of workers report journal is_program is =
@@ -147,7 +149,8 @@ HaveOneImage = (rules : Rules) (tail : Tail) (lines : List (List ℕ)) (image ot
     → Denotes rules tail lines image → Denotes rules tail lines other → image ≡ other
 
 -- the image of an answer is the one that the text denotes
-pub same_image : HaveOneImage → (rules : Rules) (input : Option (List ℕ)) (text : List ℕ) (image other : List (Option ℕ)) → input ≡ Some text
+pub same_image : HaveOneImage
+    → (rules : Rules) (input : Option (List ℕ)) (text : List ℕ) (image other : List (Option ℕ)) → input ≡ Some text
     → Denotes rules Blank (texts.lines_of text) image → IfSome input (λ t. IsImageOf rules t other) → other ≡ image
 same_image one rules None text image other e denoted found = absurd (cc)
 same_image one rules (Some read) text image other e denoted found =
@@ -167,13 +170,15 @@ pub record IsGiven (target : Target) (limits : Limits) (image : List (Option ℕ
   pub top : EndsInMemory (target_rules target)
   pub calls : limits.calls ≤ 8
 
-pub is_msp430 : (ram : RamRange) (limits : Limits) (image : List (Option ℕ)) → IsGiven (Msp430 ram) limits image → IsMsp430Program (msp430_setting ram limits image)
+pub is_msp430 : (ram : RamRange) (limits : Limits) (image : List (Option ℕ)) → IsGiven (Msp430 ram) limits image
+    → IsMsp430Program (msp430_setting ram limits image)
 is_msp430 ram limits image given = record { program = record { read = given.read; ram = given.ram; top = given.top }; calls = given.calls }
 
 pub is_mcs51 : (limits : Limits) (image : List (Option ℕ)) → IsGiven Mcs51 limits image → IsMcs51Program (mcs51_setting limits image)
 is_mcs51 limits image given = record { program = given.read; calls = given.calls }
 
-covers_image : CoverMsp430 → CoverMcs51 → (target : Target) (limits : Limits) (workers : ℕ) (image : List (Option ℕ)) (report : List ℕ) (journal : List Event)
+covers_image : CoverMsp430 → CoverMcs51
+    → (target : Target) (limits : Limits) (workers : ℕ) (image : List (Option ℕ)) (report : List ℕ) (journal : List Event)
     → IsGiven target limits image → IsAnalysedOn target limits workers image Done report journal → CoversRunsOf target image report
 covers_image msp430 mcs51 (Msp430 ram) limits workers image report journal given is =
     covers_of IsMsp430Program (λ (setting : Msp430Setting). msp430_machine setting.device) msp430_analysis msp430 (msp430_setting ram limits image) msp430_text
@@ -182,8 +187,10 @@ covers_image msp430 mcs51 Mcs51 limits workers image report journal given is =
     covers_of IsMcs51Program (λ (setting : Mcs51Setting). mcs51_machine setting.image) mcs51_analysis mcs51 (mcs51_setting limits image) mcs51_text
     workers report journal (is_mcs51 limits image given) is
 
-shows_image : ShowMsp430 → ShowMcs51 → (target : Target) (limits : Limits) (workers : ℕ) (image : List (Option ℕ)) (report : List ℕ) (journal : List Event)
-    → IsGiven target limits image → IsAnalysedOn target limits workers image Open report journal → ShowsSitesOf target limits image journal report
+shows_image : ShowMsp430 → ShowMcs51
+    → (target : Target) (limits : Limits) (workers : ℕ) (image : List (Option ℕ)) (report : List ℕ) (journal : List Event)
+    → IsGiven target limits image → IsAnalysedOn target limits workers image Open report journal
+    → ShowsSitesOf target limits image journal report
 shows_image msp430 mcs51 (Msp430 ram) limits workers image report journal given is =
     shows_of IsMsp430Program msp430_analysis msp430 (msp430_setting ram limits image) msp430_text workers report journal (is_msp430 ram limits image given) is
 shows_image msp430 mcs51 Mcs51 limits workers image report journal given is =
@@ -206,7 +213,8 @@ behind_of analysis texts false journal report text is = ([], (λ e. refl), is �
 behind_of analysis texts true journal report text is = (is.0, (λ e. absurd (cc e)), is.2)
 
 has_report : (target : Target) (limits : Limits) (workers : ℕ) (cert : Bool) (image : List (Option ℕ)) (answered : Status) (text : List ℕ)
-    (journal : List Event) → IsReportedOn target limits workers cert image answered text journal → HasReport target limits workers cert image answered text journal
+    (journal : List Event) → IsReportedOn target limits workers cert image answered text journal
+    → HasReport target limits workers cert image answered text journal
 has_report (Msp430 ram) limits workers cert image answered text journal is =
     let b = behind_of (msp430_analysis (msp430_setting ram limits image)) (msp430_texts (device_of ram image)) cert journal is.report text is.followed in
     record { report = is.report; analysed = is.analysed; behind = b.0; alone = b.1; joined = b.2 }
@@ -215,7 +223,8 @@ has_report Mcs51 limits workers cert image answered text journal is =
     record { report = is.report; analysed = is.analysed; behind = b.0; alone = b.1; joined = b.2 }
 
 -- the analysis of the image that the text denotes
-analysed : HaveOneImage → (task : Task) (input second : Option (List ℕ)) (answered : Status) (written : List ℕ) (journal : List Event) (text : List ℕ)
+analysed : HaveOneImage
+    → (task : Task) (input second : Option (List ℕ)) (answered : Status) (written : List ℕ) (journal : List Event) (text : List ℕ)
     (image other : List (Option ℕ)) → InputGives (target_rules task.target) Blank input second other
     → IsReportedOn task.target task.limits task.workers task.cert other answered written journal
     → input ≡ Some text → Denotes (target_rules task.target) Blank (texts.lines_of text) image
@@ -234,7 +243,8 @@ given_image rules task text image range end few denoted =
     record { read = rules (target_rules task.target) Blank (texts.lines_of text) image denoted; ram = range; top = end; calls = few.0 }
 
 closed_reply : CoverMsp430 → CoverMcs51 → HaveRules → HaveOneImage → (task : Task) → IsRamRange (target_rules task.target)
-    → EndsInMemory (target_rules task.target) → IsBounded (Analyse task) → (input : Option (List ℕ)) (written : List ℕ) (journal : List Event)
+    → EndsInMemory (target_rules task.target) → IsBounded (Analyse task)
+    → (input : Option (List ℕ)) (written : List ℕ) (journal : List Event)
     → IsReply (Analyse task) input Done written journal → (text : List ℕ) (image : List (Option ℕ)) → input ≡ Some text
     → Denotes (target_rules task.target) Blank (texts.lines_of text) image
     → (is : HasReport task.target task.limits task.workers task.cert image Done written journal) × CoversRunsOf task.target image is.report
@@ -244,7 +254,8 @@ closed_reply msp430 mcs51 rules one task range end few input written journal (of
 closed_reply msp430 mcs51 rules one task range end few input written journal (of_bad line fault bad is line_is none) text image e denoted = absurd (cc)
 closed_reply msp430 mcs51 rules one task range end few input written journal (of_long long is line_is none) text image e denoted = absurd (cc)
 
-pub closed_lem : CoverMsp430 → CoverMcs51 → HaveRules → HaveOneImage → (task : Task) (input before after : Option (List ℕ)) (journal : List Event)
+pub closed_lem : CoverMsp430 → CoverMcs51 → HaveRules → HaveOneImage
+    → (task : Task) (input before after : Option (List ℕ)) (journal : List Event)
     → IsRamRange (target_rules task.target) → EndsInMemory (target_rules task.target) → IsBounded (Analyse task)
     → Answers (Analyse task) Done input before after journal → ReportsOn task input before after (CoversRunsOf task.target)
 closed_lem msp430 mcs51 rules one task input before after journal range end few answers text image e denoted =
@@ -362,20 +373,23 @@ analyses_open reading answered (certificate_too_long task) e = absurd (cc)
 analyses_open reading answered (summed chip number) e = of_made chip number
 analyses_open reading answered (summed_open chip number) e = of_made chip number
 
-open_reply_analyses : (reading : Reading) (input : Option (List ℕ)) (report : List ℕ) (journal : List Event) → IsReply reading input Open report journal
+open_reply_analyses : (reading : Reading) (input : Option (List ℕ)) (report : List ℕ) (journal : List Event)
+    → IsReply reading input Open report journal
     → Analyses reading
 open_reply_analyses reading input report journal (of_image other second gives reply) =
     analyses_open reading Open (image_reply_ends reading other second Open report journal reply) refl
 open_reply_analyses reading input report journal (of_bad line fault bad is line_is none) = absurd (cc)
 open_reply_analyses reading input report journal (of_long long is line_is none) = absurd (cc)
 
-pub open_alone_lem : (reading : Reading) (input before after : Option (List ℕ)) (journal : List Event) → Answers reading Open input before after journal → Analyses reading
+pub open_alone_lem : (reading : Reading) (input before after : Option (List ℕ)) (journal : List Event)
+    → Answers reading Open input before after journal → Analyses reading
 open_alone_lem reading input before after journal answers =
     let given = gives_reply reading Open input before after journal answers ((λ f. cc f), (λ f. cc f)) (λ f. cc f) in
     open_reply_analyses reading (input_of reading input) given.text journal given.reply
 
 open_reply : ShowMsp430 → ShowMcs51 → HaveRules → HaveOneImage → (task : Task) → IsRamRange (target_rules task.target)
-    → EndsInMemory (target_rules task.target) → IsBounded (Analyse task) → (input : Option (List ℕ)) (written : List ℕ) (journal : List Event)
+    → EndsInMemory (target_rules task.target) → IsBounded (Analyse task)
+    → (input : Option (List ℕ)) (written : List ℕ) (journal : List Event)
     → IsReply (Analyse task) input Open written journal → (text : List ℕ) (image : List (Option ℕ)) → input ≡ Some text
     → Denotes (target_rules task.target) Blank (texts.lines_of text) image
     → (is : HasReport task.target task.limits task.workers task.cert image Open written journal) × ShowsSitesOf task.target task.limits image journal is.report
@@ -385,9 +399,11 @@ open_reply msp430 mcs51 rules one task range end few input written journal (of_i
 open_reply msp430 mcs51 rules one task range end few input written journal (of_bad line fault bad is line_is none) text image e denoted = absurd (cc)
 open_reply msp430 mcs51 rules one task range end few input written journal (of_long long is line_is none) text image e denoted = absurd (cc)
 
-pub open_lem : ShowMsp430 → ShowMcs51 → HaveRules → HaveOneImage → (task : Task) (input before after : Option (List ℕ)) (journal : List Event)
+pub open_lem : ShowMsp430 → ShowMcs51 → HaveRules → HaveOneImage
+    → (task : Task) (input before after : Option (List ℕ)) (journal : List Event)
     → IsRamRange (target_rules task.target) → EndsInMemory (target_rules task.target) → IsBounded (Analyse task)
-    → Answers (Analyse task) Open input before after journal → ReportsOn task input before after (λ image report. ShowsSitesOf task.target task.limits image journal report)
+    → Answers (Analyse task) Open input before after journal
+    → ReportsOn task input before after (λ image report. ShowsSitesOf task.target task.limits image journal report)
 open_lem msp430 mcs51 rules one task input before after journal range end few answers text image e denoted =
     let given = gives_reply (Analyse task) Open input before after journal answers ((λ f. cc f), (λ f. cc f)) (λ f. cc f) in
     let told = open_reply msp430 mcs51 rules one task range end few input given.text journal given.reply text image e denoted in (
@@ -401,7 +417,8 @@ open_lem msp430 mcs51 rules one task input before after journal range end few an
 -- a list of which a closed book breaks nothing holds of every run of a chip's programs
 abbrev HoldRuns : {B S A : Type 0} → (B → Type 0) → (B → Machine S) → (B → Analysis A) → Type 0
 HoldRuns {B} program machine analysis = (base : B) (text_of : ℕ → List ℕ → List ℕ) (list : List (ℕ × Assertion)) (journal : List Event) → program base
-    → IsLegalJournal (analysis base) journal → IsFinished (replay (analysis base) journal) → are_closed (last_works (analysis base) journal) ≡ true
+    → IsLegalJournal (analysis base) journal → IsFinished (replay (analysis base) journal)
+    → are_closed (last_works (analysis base) journal) ≡ true
     → broken_in text_of (analysis base) list journal ≡ [] → Holds (machine base) list
 
 abbrev HoldMsp430 : Type 0
@@ -415,14 +432,17 @@ none_broken [] e = refl
 none_broken (b ∷ list) e = absurd (cc)
 
 holds_of : {B S A : Type 0} (program : B → Type 0) (machine : B → Machine S) (analysis : B → Analysis A) → HoldRuns program machine analysis
-    → (base : B) (text_of : ℕ → List ℕ → List ℕ) (workers : ℕ) (list : List (ℕ × Assertion)) (text : List ℕ) (journal : List Event) → program base
+    → (base : B) (text_of : ℕ → List ℕ → List ℕ) (workers : ℕ) (list : List (ℕ × Assertion)) (text : List ℕ) (journal : List Event)
+    → program base
     → IsDecided text_of (analysis base) workers list Done text journal → Holds (machine base) list
 holds_of program machine analysis hold base text_of workers list text journal is_program (reported is left told text_is) = absurd (cc)
 holds_of program machine analysis hold base text_of workers list text journal is_program (decided is none told text_is) =
     hold base text_of list journal is_program is.legal is.finished none (none_broken (broken_in text_of (analysis base) list journal) told)
 
-holds_image : HoldMsp430 → HoldMcs51 → (target : Target) (limits : Limits) (workers : ℕ) (image : List (Option ℕ)) (list : List (ℕ × Assertion)) (text : List ℕ)
-    (journal : List Event) → IsGiven target limits image → IsDecidedOn target limits workers image list Done text journal → HoldOn target image list
+holds_image : HoldMsp430 → HoldMcs51
+    → (target : Target) (limits : Limits) (workers : ℕ) (image : List (Option ℕ)) (list : List (ℕ × Assertion)) (text : List ℕ)
+    (journal : List Event) → IsGiven target limits image
+    → IsDecidedOn target limits workers image list Done text journal → HoldOn target image list
 holds_image msp430 mcs51 (Msp430 ram) limits workers image list text journal given is =
     holds_of IsMsp430Program (λ (setting : Msp430Setting). msp430_machine setting.device) msp430_analysis msp430 (msp430_setting ram limits image) msp430_text
     workers list text journal (is_msp430 ram limits image given) is
@@ -431,16 +451,19 @@ holds_image msp430 mcs51 Mcs51 limits workers image list text journal given is =
     workers list text journal (is_mcs51 limits image given) is
 
 -- what is told of a second text that the input gives
-told_second : {P : List ℕ → Type 0} (rules : Rules) (input second : Option (List ℕ)) (image : List (Option ℕ)) (text : List ℕ) → input ≡ Some text
+told_second : {P : List ℕ → Type 0} (rules : Rules) (input second : Option (List ℕ)) (image : List (Option ℕ)) (text : List ℕ)
+    → input ≡ Some text
     → InputGives rules Second input second image → IfSome second P → (behind : List ℕ) × Gives rules Second text image behind × P behind
 told_second rules None second image text e gives told = absurd (cc)
 told_second {P} rules (Some read) second image text e gives told =
     let same : read ≡ text = same_Some read text e in
     (gives.0, subst (λ t. Gives rules Second t image gives.0) same gives.2, subst (λ s. IfSome s P) gives.1 told)
 
-asserted_image : HoldMsp430 → HoldMcs51 → HaveRules → (task : Task) → IsRamRange (target_rules task.target) → EndsInMemory (target_rules task.target)
+asserted_image : HoldMsp430 → HoldMcs51 → HaveRules → (task : Task) → IsRamRange (target_rules task.target)
+    → EndsInMemory (target_rules task.target)
     → IsBounded (Assert task) → (input second : Option (List ℕ)) (image : List (Option ℕ)) (report : List ℕ) (journal : List Event)
-    → InputGives (target_rules task.target) Second input second image → IsAsserted task image second Done report journal → HoldsOf task.target input
+    → InputGives (target_rules task.target) Second input second image → IsAsserted task image second Done report journal
+    → HoldsOf task.target input
 asserted_image msp430 mcs51 rules task range end few input second image report journal gives (asserted list read is) text e =
     let behind = told_second {P = λ t. AreAsserted (spaces_of task.target) t list} (target_rules task.target) input second image text e gives read in
     let given : IsGiven task.target task.limits image = record {
@@ -453,8 +476,10 @@ asserted_image msp430 mcs51 rules task range end few input second image report j
 asserted_image msp430 mcs51 rules task range end few input second image report journal gives (unread line is told line_is none) text e = absurd (cc)
 asserted_image msp430 mcs51 rules task range end few input second image report journal gives (overlong is told line_is none) text e = absurd (cc)
 
-asserted_reply : HoldMsp430 → HoldMcs51 → HaveRules → (task : Task) → IsRamRange (target_rules task.target) → EndsInMemory (target_rules task.target)
-    → IsBounded (Assert task) → (input : Option (List ℕ)) (report : List ℕ) (journal : List Event) → IsReply (Assert task) input Done report journal
+asserted_reply : HoldMsp430 → HoldMcs51 → HaveRules → (task : Task) → IsRamRange (target_rules task.target)
+    → EndsInMemory (target_rules task.target)
+    → IsBounded (Assert task) → (input : Option (List ℕ)) (report : List ℕ) (journal : List Event)
+    → IsReply (Assert task) input Done report journal
     → HoldsOf task.target input
 asserted_reply msp430 mcs51 rules task range end few input report journal (of_image image second gives reply) text e =
     asserted_image msp430 mcs51 rules task range end few input second image report journal gives reply text e
@@ -487,7 +512,8 @@ done_closed true e = refl
 done_closed false e = absurd (cc)
 
 -- the verdict that Done tells
-abbrev IsClosedVerdict : {A : Type 0} → (text_of : ℕ → List ℕ → List ℕ) → Analysis A → StateTexts A → (second : Option (List ℕ)) → (report : List ℕ) → Type 0
+abbrev IsClosedVerdict : {A : Type 0} → (text_of : ℕ → List ℕ → List ℕ) → Analysis A → StateTexts A
+    → (second : Option (List ℕ)) → (report : List ℕ) → Type 0
 IsClosedVerdict text_of analysis texts second report = IfSome second (λ t. IsVerdict text_of analysis texts t true report)
 
 verdict_of : {A : Type 0} (text_of : ℕ → List ℕ → List ℕ) (analysis : Analysis A) (texts : StateTexts A) (second : Option (List ℕ)) (is_closed : Bool)
@@ -502,7 +528,8 @@ closed_verdict text_of analysis texts second report (judged is_closed is told) =
     verdict_of text_of analysis texts second is_closed report (done_closed is_closed told) is
 closed_verdict text_of analysis texts second report (lengthy is told line_is) = absurd (cc)
 
-certified_image : VerdictsMsp430 → VerdictsMcs51 → (target : Target) (limits : Limits) (image : List (Option ℕ)) (input second : Option (List ℕ))
+certified_image : VerdictsMsp430 → VerdictsMcs51
+    → (target : Target) (limits : Limits) (image : List (Option ℕ)) (input second : Option (List ℕ))
     (report text : List ℕ) → input ≡ Some text → InputGives (target_rules target) Second input second image
     → ((behind : List ℕ) → Gives (target_rules target) Second text image behind → IsGiven target limits image)
     → IsCheckedOn target limits image second Done report
@@ -527,7 +554,8 @@ pub record IsCertified (target : Target) (text report : List ℕ) : Type 0 where
   pub covers : CoversRunsOf target image report
 
 certified_reply : VerdictsMsp430 → VerdictsMcs51 → HaveRules → (task : Task) → IsRamRange (target_rules task.target)
-    → EndsInMemory (target_rules task.target) → IsBounded (Check task) → (input : Option (List ℕ)) (report : List ℕ) (journal : List Event) (text : List ℕ)
+    → EndsInMemory (target_rules task.target) → IsBounded (Check task)
+    → (input : Option (List ℕ)) (report : List ℕ) (journal : List Event) (text : List ℕ)
     → input ≡ Some text → IsReply (Check task) input Done report journal → IsCertified task.target text report
 certified_reply msp430 mcs51 rules task range end few input report journal text e (of_image image second gives reply) =
     let read : (behind : List ℕ) → Gives (target_rules task.target) Second text image behind → IsGiven task.target task.limits image
@@ -563,13 +591,15 @@ EndedAreFaultless = (rules : Rules) (text : List ℕ) (line : ℕ) (fault : HexF
     → FirstFault rules Second (texts.lines_of text) line fault → ⊥
 
 -- the first bytes of a text that is all image text
-all_front : (front second text : List ℕ) → text ≡ front ++ second → second ≡ [] → length front ≤ text_limit → (text ≡ front) × (front_of text ≡ front)
+all_front : (front second text : List ℕ) → text ≡ front ++ second → second ≡ [] → length front ≤ text_limit
+    → (text ≡ front) × (front_of text ≡ front)
 all_front front second text joined none fits =
     let same : text ≡ front = joined ∙ ap (λ t. front ++ t) none ∙ append-nil front in
     (same, ap front_of same ∙ take_all text_limit front fits)
 
 -- the first bytes of a text that an image text begins have no fault
-front_faultless : HaveNotBoth → EndedStay → EndedAreFaultless → (rules : Rules) (text : List ℕ) (image : List (Option ℕ)) (second : List ℕ) (line : ℕ)
+front_faultless : HaveNotBoth → EndedStay → EndedAreFaultless
+    → (rules : Rules) (text : List ℕ) (image : List (Option ℕ)) (second : List ℕ) (line : ℕ)
     (fault : HexFault) → (is : AreTexts rules text image second) → (second ≡ []) ⊎ HasEnded rules is.front
     → FirstFault rules Second (texts.lines_of (front_of text)) line fault → ⊥
 front_faultless both stay faultless rules text image second line fault is (inl none) first =
@@ -581,7 +611,8 @@ front_faultless both stay faultless rules text image second line fault is (inr e
     faultless rules (front_of text) line fault (subst (HasEnded rules) (sym same) (stay rules is.front more ended)) first
 
 -- a text of an image isn't refused
-pub not_bad : HaveNotBoth → EndedStay → EndedAreFaultless → (rules : Rules) (tail : Tail) (text : List ℕ) (image : List (Option ℕ)) (second : List ℕ) (line : ℕ)
+pub not_bad : HaveNotBoth → EndedStay → EndedAreFaultless
+    → (rules : Rules) (tail : Tail) (text : List ℕ) (image : List (Option ℕ)) (second : List ℕ) (line : ℕ)
     (fault : HexFault) → Gives rules tail text image second → IsBad rules tail text line fault → ⊥
 not_bad both stay faultless rules Blank text image second line fault gives bad =
     both rules Blank (texts.lines_of text) image line fault gives.0.denoted
@@ -589,7 +620,8 @@ not_bad both stay faultless rules Blank text image second line fault gives bad =
 not_bad both stay faultless rules Second text image second line fault gives bad =
     front_faultless both stay faultless rules text image second line fault gives gives.ends bad.first
 
-not_long_behind : EndedStay → (rules : Rules) (text : List ℕ) (image : List (Option ℕ)) (second : List ℕ) → (is : AreTexts rules text image second)
+not_long_behind : EndedStay → (rules : Rules) (text : List ℕ) (image : List (Option ℕ)) (second : List ℕ)
+    → (is : AreTexts rules text image second)
     → (second ≡ []) ⊎ HasEnded rules is.front → IsTooLong rules Second text → ⊥
 not_long_behind stay rules text image second is (inl none) long =
     let all = all_front is.front second text is.whole none is.fits in omega (arith, is.fits, long.longer, ap length all.0)
@@ -598,13 +630,15 @@ not_long_behind stay rules text image second is (inr ended) long =
     let same : front_of text ≡ is.front ++ more = ap front_of is.whole ∙ front_goes_on is.front second is.fits in
     long.unended refl (subst (HasEnded rules) (sym same) (stay rules is.front more ended))
 
-pub not_long : EndedStay → (rules : Rules) (tail : Tail) (text : List ℕ) (image : List (Option ℕ)) (second : List ℕ) → Gives rules tail text image second
+pub not_long : EndedStay → (rules : Rules) (tail : Tail) (text : List ℕ) (image : List (Option ℕ)) (second : List ℕ)
+    → Gives rules tail text image second
     → IsTooLong rules tail text → ⊥
 not_long stay rules Blank text image second gives long = omega (arith, gives.0.fits, long.longer)
 not_long stay rules Second text image second gives long = not_long_behind stay rules text image second gives gives.ends long
 
 -- the status of the reply to an input that gives an image
-reply_ends : HaveNotBoth → EndedStay → EndedAreFaultless → (reading : Reading) (answered : Status) (input : Option (List ℕ)) (report : List ℕ) (journal : List Event)
+reply_ends : HaveNotBoth → EndedStay → EndedAreFaultless
+    → (reading : Reading) (answered : Status) (input : Option (List ℕ)) (report : List ℕ) (journal : List Event)
     (text : List ℕ) (image : List (Option ℕ)) (second : List ℕ) → IsReply reading input answered report journal → input ≡ Some text
     → Gives (rules_of reading) (tail_of reading) text image second → Ends reading answered
 reply_ends both ended faultless reading answered input report journal text image second (of_image other behind found reply) e is =
@@ -616,7 +650,8 @@ reply_ends both ended faultless reading answered input report journal text image
     absurd (not_long ended (rules_of reading) (tail_of reading) text image second is
     (subst (λ i. IfSome i (IsTooLong (rules_of reading) (tail_of reading))) e long))
 
-pub complete_lem : HaveNotBoth → EndedStay → EndedAreFaultless → (reading : Reading) (answered : Status) (input before after : Option (List ℕ)) (journal : List Event) (text : List ℕ)
+pub complete_lem : HaveNotBoth → EndedStay → EndedAreFaultless
+    → (reading : Reading) (answered : Status) (input before after : Option (List ℕ)) (journal : List Event) (text : List ℕ)
     (image : List (Option ℕ)) (second : List ℕ) → Answers reading answered input before after journal → input_of reading input ≡ Some text
     → Gives (rules_of reading) (tail_of reading) text image second → (answered ≡ ReadFault → ⊥) → (answered ≡ WriteFault → ⊥)
     → Ends reading answered ⊎ (answered ≡ Memory)
@@ -637,8 +672,10 @@ abbrev HaveSizes : Type 0
 HaveSizes = (chip : ChipName) (number : ℕ) → number ≤ 2000 → length (made_image chip number) ≤ text_limit
 
 -- each made text gives an image, so its summary is told
-pub made_lem : HaveNotBoth → EndedStay → EndedAreFaultless → HaveImages → HaveSizes → (chip : ChipName) (number : ℕ) (answered : Status) (input before after : Option (List ℕ)) (journal : List Event)
-    → number ≤ 2000 → Answers (Gen chip number) answered input before after journal → (answered ≡ ReadFault → ⊥) → (answered ≡ WriteFault → ⊥)
+pub made_lem : HaveNotBoth → EndedStay → EndedAreFaultless → HaveImages → HaveSizes
+    → (chip : ChipName) (number : ℕ) (answered : Status) (input before after : Option (List ℕ)) (journal : List Event)
+    → number ≤ 2000 → Answers (Gen chip number) answered input before after journal → (answered ≡ ReadFault → ⊥)
+    → (answered ≡ WriteFault → ⊥)
     → Ends (Gen chip number) answered ⊎ (answered ≡ Memory)
 made_lem both ended faultless images sizes chip.Msp430 number answered input before after journal few answers no_read no_write =
     let denotes = images chip.Msp430 number few in

@@ -27,19 +27,22 @@ FaultsStay = (rules : Rules) (tail : Tail) (text more : List ℕ) (line : ℕ) (
     → FaultsWithin rules tail text line fault → FaultsWithin rules tail (text ++ more) line fault
 
 -- the first bytes of a text begin with any front of it that is within the limit
-pub front_goes_on : (front more : List ℕ) → length front ≤ text_limit → front_of (front ++ more) ≡ front ++ take (text_limit - length front) more
+pub front_goes_on : (front more : List ℕ) → length front ≤ text_limit
+    → front_of (front ++ more) ≡ front ++ take (text_limit - length front) more
 front_goes_on front more fits =
     let size : text_limit ≡ length front + (text_limit - length front) = omega (arith, fits) in
     ap (λ n. take n (front ++ more)) size ∙ take-append-add front more (text_limit - length front)
 
 -- what is used of a piece, and all that comes behind
-used_front : (text piece behind : List ℕ) (count : ℕ) → (text ++ piece) ++ behind ≡ (text ++ take count piece) ++ (drop count piece ++ behind)
+used_front : (text piece behind : List ℕ) (count : ℕ)
+    → (text ++ piece) ++ behind ≡ (text ++ take count piece) ++ (drop count piece ++ behind)
 used_front text piece behind count =
     ap (λ p. (text ++ p) ++ behind) (sym (take-append-drop count piece))
     ∙ ap (λ t. t ++ behind) (sym (append_assoc text (take count piece) (drop count piece)))
     ∙ append_assoc (text ++ take count piece) (drop count piece) behind
 
-bad_front : FaultsStay → (rules : Rules) (tail : Tail) (front more : List ℕ) (error : HexError) → length front ≤ text_limit → TellsFront rules tail front error
+bad_front : FaultsStay → (rules : Rules) (tail : Tail) (front more : List ℕ) (error : HexError)
+    → length front ≤ text_limit → TellsFront rules tail front error
     → LacksImage rules tail (front ++ more) (input_error_of error)
 bad_front stay rules tail front more (Bad line fault) fits faults =
     let first = stay rules tail front (take (text_limit - length front) more) line fault faults in
@@ -103,7 +106,8 @@ begun_with-nothing None = refl
 begun_with-nothing (Some left) = refl
 
 -- nothing is taken at first
-pub IsTaken-none : (rules : Rules) (tail : Tail) (input : Option (List ℕ)) (reader : Reading) → reader ≡ record { rules = rules; tail = tail; text = []; error = None }
+pub IsTaken-none : (rules : Rules) (tail : Tail) (input : Option (List ℕ)) (reader : Reading)
+    → reader ≡ record { rules = rules; tail = tail; text = []; error = None }
     → IsTaken rules tail input input reader text_limit
 IsTaken-none rules tail input reader is =
     let same : IsTaken rules tail input input (record { rules = rules; tail = tail; text = []; error = None }) text_limit = record {
@@ -131,8 +135,10 @@ whole_piece : (piece : List ℕ) (used : ℕ) → length piece ≤ used → take
 whole_piece piece used all = take_all used piece all
 
 pub IsTaken-more : (rules : Rules) (tail : Tail) (input left : Option (List ℕ)) (reader : Reading) (room : ℕ) (buffer : List ℕ) (count used : ℕ) (after : Option (List ℕ)) (new : Reading)
-    → IsTaken rules tail input left reader room → Takes left count buffer after → length (take count buffer) ≡ count → used ≤ room → (used < count → ⊥) → used ≤ length (take count buffer)
-    → new ≡ longer reader (take used (take count buffer)) → NoneBegun reader.rules reader.tail (reader.text ++ take used (take count buffer))
+    → IsTaken rules tail input left reader room → Takes left count buffer after → length (take count buffer) ≡ count
+    → used ≤ room → (used < count → ⊥) → used ≤ length (take count buffer)
+    → new ≡ longer reader (take used (take count buffer))
+    → NoneBegun reader.rules reader.tail (reader.text ++ take used (take count buffer))
     → IsTaken rules tail input after new (room - used)
 IsTaken-more rules tail input left reader room buffer count used after new taken takes size fits not_less within is first =
     let all : take used (take count buffer) ≡ take count buffer = whole_piece (take count buffer) used (omega (arith, size, not_less, within)) in
@@ -160,7 +166,8 @@ gives_whole rules Second text image first fits denoted = record {
 }
 
 -- at the end of the source the reader has all of the input
-at_end : (rules : Rules) (tail : Tail) (left : Option (List ℕ)) (text : List ℕ) (image : List (Option ℕ)) → IsAtEnd left → Gives rules tail text image []
+at_end : (rules : Rules) (tail : Tail) (left : Option (List ℕ)) (text : List ℕ) (image : List (Option ℕ)) → IsAtEnd left
+    → Gives rules tail text image []
     → InputGives rules tail (begun_with text left) (begun_with [] left) image
 at_end rules tail None text image end gives = tt
 at_end rules tail (Some left) text image end gives =
@@ -168,7 +175,8 @@ at_end rules tail (Some left) text image end gives =
     ([], ap Some end, gives)
 
 pub image_at_end : (rules : Rules) (tail : Tail) (input left after : Option (List ℕ)) (begun : List ℕ) (reader : Reading) (room : ℕ) (image : List (Option ℕ))
-    → IsTaken rules tail input left reader room → IsAtEnd left → after ≡ left → begun ≡ [] → Denotes reader.rules reader.tail (lines_of reader.text) image
+    → IsTaken rules tail input left reader room → IsAtEnd left → after ≡ left → begun ≡ []
+    → Denotes reader.rules reader.tail (lines_of reader.text) image
     → InputGives rules tail input (begun_with begun after) image
 image_at_end rules tail input left after begun reader room image taken end same nothing denoted =
     let own = subst (λ r. Denotes r reader.tail (lines_of reader.text) image) taken.same_rules denoted in
@@ -180,8 +188,10 @@ image_at_end rules tail input left after begun reader room image taken end same 
 
 -- a second text begins in a piece
 stopped : (rules : Rules) (tail : Tail) (text piece : List ℕ) (used : ℕ) (after : Option (List ℕ)) (image : List (Option ℕ)) → tail ≡ Second
-    → NoneBegun rules tail (text ++ take used piece) → HasEnded rules (text ++ take used piece) → length (text ++ take used piece) ≤ text_limit
-    → Denotes rules tail (lines_of (text ++ take used piece)) image → InputGives rules tail (begun_with (text ++ piece) after) (begun_with (drop used piece) after) image
+    → NoneBegun rules tail (text ++ take used piece) → HasEnded rules (text ++ take used piece)
+    → length (text ++ take used piece) ≤ text_limit
+    → Denotes rules tail (lines_of (text ++ take used piece)) image
+    → InputGives rules tail (begun_with (text ++ piece) after) (begun_with (drop used piece) after) image
 stopped rules tail text piece used None image second first ended fits denoted = tt
 stopped rules tail text piece used (Some left) image second first ended fits denoted =
     subst (λ t. (behind : List ℕ) × (Some (drop used piece ++ left) ≡ Some behind) × Gives rules t ((text ++ piece) ++ left) image behind) (sym second) (
@@ -216,7 +226,8 @@ image_at_stop rules tail input left reader new room buffer count used after begu
     subst (λ b. InputGives rules tail input (begun_with b after) image) (sym begins)
     (subst (λ i. InputGives rules tail i (begun_with (drop used piece) after) image) (sym (taken.whole ∙ took reader.text left buffer count after takes)) gives)
 
-bad_whole : (rules : Rules) (tail : Tail) (text : List ℕ) (error : HexError) → length text ≤ text_limit → TellsWhole rules tail (lines_of text) error
+bad_whole : (rules : Rules) (tail : Tail) (text : List ℕ) (error : HexError) → length text ≤ text_limit
+    → TellsWhole rules tail (lines_of text) error
     → LacksImage rules tail text (input_error_of error)
 bad_whole rules tail text (Bad line fault) fits first = record {
   first = subst (λ t. FirstFault rules tail (lines_of t) line fault) (sym (all_of text fits)) first;
@@ -225,14 +236,17 @@ bad_whole rules tail text (Bad line fault) fits first = record {
 bad_whole rules tail text Memory fits none = absurd none
 
 -- at the end of the source the reader has all of the input
-lacks_whole : (rules : Rules) (tail : Tail) (left : Option (List ℕ)) (text : List ℕ) (error : InputError) → IsAtEnd left → LacksImage rules tail text error
+lacks_whole : (rules : Rules) (tail : Tail) (left : Option (List ℕ)) (text : List ℕ) (error : InputError) → IsAtEnd left
+    → LacksImage rules tail text error
     → IfSome (begun_with text left) (λ t. LacksImage rules tail t error)
 lacks_whole rules tail None text error end lacks = tt
 lacks_whole rules tail (Some left) text error end lacks =
     subst (λ t. LacksImage rules tail t error) (sym (append-nil text) ∙ ap (λ bytes. text ++ bytes) (sym end)) lacks
 
-pub bad_at_end : (rules : Rules) (tail : Tail) (input left : Option (List ℕ)) (reader : Reading) (room : ℕ) (error : HexError) → IsTaken rules tail input left reader room
-    → IsAtEnd left → TellsWhole reader.rules reader.tail (lines_of reader.text) error → IfSome input (λ text. LacksImage rules tail text (input_error_of error))
+pub bad_at_end : (rules : Rules) (tail : Tail) (input left : Option (List ℕ)) (reader : Reading) (room : ℕ) (error : HexError)
+    → IsTaken rules tail input left reader room
+    → IsAtEnd left → TellsWhole reader.rules reader.tail (lines_of reader.text) error
+    → IfSome input (λ text. LacksImage rules tail text (input_error_of error))
 bad_at_end rules tail input left reader room error taken end tells =
     let own = subst (λ r. TellsWhole r reader.tail (lines_of reader.text) error) taken.same_rules tells in
     let own_tail = subst (λ t. TellsWhole rules t (lines_of reader.text) error) taken.same_tail own in
@@ -241,7 +255,8 @@ bad_at_end rules tail input left reader room error taken end tells =
     (lacks_whole rules tail left reader.text (input_error_of error) end is)
 
 -- where a piece is refused
-refused_from : (rules : Rules) (tail : Tail) (text : List ℕ) (left : Option (List ℕ)) (error : InputError) → ((behind : List ℕ) → LacksImage rules tail (text ++ behind) error)
+refused_from : (rules : Rules) (tail : Tail) (text : List ℕ) (left : Option (List ℕ)) (error : InputError)
+    → ((behind : List ℕ) → LacksImage rules tail (text ++ behind) error)
     → IfSome (begun_with text left) (λ whole. LacksImage rules tail whole error)
 refused_from rules tail text None error lacks = tt
 refused_from rules tail text (Some left) error lacks = lacks left
@@ -262,21 +277,25 @@ refused_piece rules tail input left reader room buffer count after error taken t
 take_front : (used count : ℕ) (piece : List ℕ) → used ≤ length (take count piece) → take used (take count piece) ≡ take used piece
 take_front used count piece within = sym (take-append-le used (take count piece) (drop count piece) within) ∙ ap (take used) (take-append-drop count piece)
 
-pub read_text : (old new : Reading) (used count : ℕ) (piece : List ℕ) → new ≡ longer old (take used (take count piece)) → used ≤ length (take count piece)
+pub read_text : (old new : Reading) (used count : ℕ) (piece : List ℕ) → new ≡ longer old (take used (take count piece))
+    → used ≤ length (take count piece)
     → new.text ≡ old.text ++ take used piece
 read_text old new used count piece is within =
     ap (λ (r : Reading). r.text) is ∙ ap (λ p. old.text ++ p) (take_front used count piece within)
 
 -- no second text has begun in what was read
-pub none_begun : (old new : Reading) (used count : ℕ) (piece : List ℕ) → new ≡ longer old (take used (take count piece)) → used ≤ length (take count piece)
+pub none_begun : (old new : Reading) (used count : ℕ) (piece : List ℕ) → new ≡ longer old (take used (take count piece))
+    → used ≤ length (take count piece)
     → (old.tail ≡ Second → (k : ℕ) → k < length new.text → HasEnded old.rules (take k new.text) → ⊥)
     → NoneBegun old.rules old.tail (old.text ++ take used piece)
 none_begun old new used count piece is within first =
     subst (λ t. old.tail ≡ Second → (k : ℕ) → k < length t → HasEnded old.rules (take k t) → ⊥) (read_text old new used count piece is within) first
 
 -- where a second text begins
-pub ended_there : (old new : Reading) (tail : Tail) (used count : ℕ) (piece : List ℕ) → new ≡ longer old (take used (take count piece)) → used ≤ length (take count piece)
-    → old.tail ≡ tail → (tail ≡ Second) × HasEnded new.rules new.text → (old.tail ≡ Second) × HasEnded old.rules (old.text ++ take used piece)
+pub ended_there : (old new : Reading) (tail : Tail) (used count : ℕ) (piece : List ℕ)
+    → new ≡ longer old (take used (take count piece)) → used ≤ length (take count piece)
+    → old.tail ≡ tail → (tail ≡ Second) × HasEnded new.rules new.text
+    → (old.tail ≡ Second) × HasEnded old.rules (old.text ++ take used piece)
 ended_there old new tail used count piece is within same ended = (
   same ∙ ended.0,
   subst (λ t. HasEnded old.rules t) (read_text old new used count piece is within)
@@ -290,12 +309,14 @@ pub used_all : (old new : Reading) (tail : Tail) (used count : ℕ) (piece : Lis
 used_all old new tail used count piece is same not stops fewer =
     not (sym same ∙ (stops fewer).0, subst (λ r. HasEnded r new.text) (sym (ap (λ (r : Reading). r.rules) is)) (stops fewer).1)
 
-pub more_behind : (used count room : ℕ) (piece : List ℕ) → count ≡ min (length piece) room → used < length piece → used ≤ length (take count piece)
+pub more_behind : (used count room : ℕ) (piece : List ℕ) → count ≡ min (length piece) room → used < length piece
+    → used ≤ length (take count piece)
     → (used < length (take count piece) → ⊥) → count < length piece
 more_behind used count room piece least fewer within not = omega (arith, least, fewer, within, not, length-take count piece)
 
 -- no second text begins there
-pub unended : (old new : Reading) (tail : Tail) (used count : ℕ) (piece : List ℕ) → new ≡ longer old (take used (take count piece)) → used ≤ length (take count piece)
+pub unended : (old new : Reading) (tail : Tail) (used count : ℕ) (piece : List ℕ)
+    → new ≡ longer old (take used (take count piece)) → used ≤ length (take count piece)
     → old.tail ≡ tail → ((tail ≡ Second) × HasEnded new.rules new.text → ⊥) → (used < length (take count piece) → ⊥)
     → (old.tail ≡ Second → HasEnded old.rules (old.text ++ take count piece) → ⊥)
 unended old new tail used count piece is within same not less second ended =
@@ -329,6 +350,7 @@ behind_used used count buffer less =
     sym (drop-take used (count - used) buffer) ∙ ap (λ n. drop used (take n buffer)) size
 
 -- a call that took nothing left all
-pub nothing_taken : (left : Option (List ℕ)) (count : ℕ) (buffer : List ℕ) (after : Option (List ℕ)) → Takes left count buffer after → count ≡ 0 → after ≡ left
+pub nothing_taken : (left : Option (List ℕ)) (count : ℕ) (buffer : List ℕ) (after : Option (List ℕ))
+    → Takes left count buffer after → count ≡ 0 → after ≡ left
 nothing_taken None count buffer after takes none = takes
 nothing_taken (Some bytes) count buffer after takes none = takes.2 ∙ ap (λ n. Some (drop n bytes)) none

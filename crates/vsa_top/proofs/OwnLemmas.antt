@@ -94,7 +94,8 @@ pub record PassTheirOwn {B A : Type 0} (program : B → Type 0) (analysis : B �
   pub stack : (base : B) → HasOneStack (analysis base)
   pub told : (base : B) (journal : List Event) → IsLegalJournal (analysis base) journal → IsFinished (replay (analysis base) journal)
       → (are_closed (last_works (analysis base) journal) ≡ true) ↔ IsClosed (replay (analysis base) journal)
-  pub closed : (base : B) → program base → (text_of : ℕ → List ℕ → List ℕ) (journal : List Event) (text : List ℕ) → HasOneStack (analysis base)
+  pub closed : (base : B) → program base → (text_of : ℕ → List ℕ → List ℕ) (journal : List Event) (text : List ℕ)
+      → HasOneStack (analysis base)
       → IsLegalJournal (analysis base) journal → IsClosed (replay (analysis base) journal)
       → IsCert (analysis base) (texts base) (nodes_of (replay (analysis base) journal)) text
       → IsVerdict text_of (analysis base) (texts base) text true (report_of_journal text_of (analysis base) journal)
@@ -133,7 +134,8 @@ module _ {B A : Type 0} (program : B → Type 0) (analysis : B → Analysis A) (
       let same = pass.one base text_of certificate closed true told report is.verdict own in (status_is ∙ ap status_of_verdict same.0, same.1)
   own_checked answered told own fits (lengthy longer status_is line_is) = absurd (omega (arith, fits, longer))
 
-own_on : PassMsp430 → PassMcs51 → (target : Target) (limits : Limits) (image : List (Option ℕ)) (report certificate : List ℕ) (answered : Status)
+own_on : PassMsp430 → PassMcs51
+    → (target : Target) (limits : Limits) (image : List (Option ℕ)) (report certificate : List ℕ) (answered : Status)
     (told : List ℕ) → IsGiven target limits image → IsOwn target limits image report certificate → length certificate ≤ second_limit
     → IsCheckedOn target limits image (Some certificate) answered told → (answered ≡ Done) × (told ≡ report)
 own_on msp430 mcs51 (Msp430 ram) limits image report certificate answered told given own fits checked =
@@ -151,7 +153,8 @@ own_on msp430 mcs51 Mcs51 limits image report certificate answered told given ow
 
 pub accepted_lem : PassMsp430 → PassMcs51 → HaveRules → (task : Task) (answered : Status) (before after : Option (List ℕ))
     (text report certificate : List ℕ) (image : List (Option ℕ)) → IsRamRange (target_rules task.target) → EndsInMemory (target_rules task.target)
-    → IsBounded (Check task) → Gives (target_rules task.target) Second text image certificate → IsOwn task.target task.limits image report certificate
+    → IsBounded (Check task) → Gives (target_rules task.target) Second text image certificate
+    → IsOwn task.target task.limits image report certificate
     → length certificate ≤ second_limit → IsVerdictOn task image certificate answered before after ⊎ (answered ≡ Memory)
     → TellsReport answered before after report ⊎ (answered ≡ Memory)
 accepted_lem msp430 mcs51 rules task answered before after text report certificate image range end few gives own fits (inr memory) = inr memory

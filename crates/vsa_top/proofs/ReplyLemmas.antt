@@ -36,7 +36,8 @@ turns_below (Claim seat unit ∷ GiveBack other taken ∷ events) turns = absurd
 turns_below (Post seat unit ∷ events) turns = absurd turns
 turns_below (GiveBack seat unit ∷ events) turns = absurd turns
 
-pub alone_is : {A : Type 0} (m : Analysis A) (journal : List Event) → IsLegalJournal m journal → IsFinished (replay m journal) → AreTurns journal
+pub alone_is : {A : Type 0} (m : Analysis A) (journal : List Event) → IsLegalJournal m journal
+    → IsFinished (replay m journal) → AreTurns journal
     → IsAnalysis m 1 journal
 alone_is m journal legal finished turns = record { legal = legal; finished = finished; seats = turns_below journal turns; alone = λ one. turns }
 
@@ -56,7 +57,8 @@ analysed_by text_of m workers journal report is_closed replied is bounded report
 -- the report of a program, with what follows it
 pub reported_by : {A : Type 0} (text_of : ℕ → List ℕ → List ℕ) (m : Analysis A) (texts : StateTexts A) (workers : ℕ) (cert : Bool) (journal : List Event)
     (report text : List ℕ) (is_closed : Bool) (replied : Status) → IsAnalysis m workers journal → AreBounded m journal
-    → IsReportOf text_of (replay m journal) report is_closed → replied ≡ status_of_analysis is_closed → IsFollowed m texts cert journal report text
+    → IsReportOf text_of (replay m journal) report is_closed → replied ≡ status_of_analysis is_closed
+    → IsFollowed m texts cert journal report text
     → IsReported text_of m texts workers cert replied text journal
 reported_by text_of m texts workers cert journal report text is_closed replied is bounded reported told followed = record {
   report = report;
@@ -66,7 +68,8 @@ reported_by text_of m texts workers cert journal report text is_closed replied i
 
 -- where no certificate is asked for the report is all
 alone_by : {A : Type 0} (text_of : ℕ → List ℕ → List ℕ) (m : Analysis A) (texts : StateTexts A) (workers : ℕ) (replied : Status) (text : List ℕ)
-    (journal : List Event) → IsReported text_of m texts workers false replied text journal → IsAnalysed text_of m workers replied text journal
+    (journal : List Event) → IsReported text_of m texts workers false replied text journal
+    → IsAnalysed text_of m workers replied text journal
 alone_by text_of m texts workers replied text journal is =
     subst (λ t. IsAnalysed text_of m workers replied t journal) (sym is.followed) is.analysed
 
@@ -86,6 +89,7 @@ pub if_ok : {A E : Type 0} (r : Result A E) (P Q : A → Type 0) → ((a : A) �
 if_ok (Ok a) P Q each p = each a p
 if_ok (Err e) P Q each p = tt
 
-pub if_all : {A E : Type 0} (r : Result A E) (P Q R S : A → Type 0) → ((a : A) → P a → Q a → R a → S a) → IfOk r P → IfOk r Q → IfOk r R → IfOk r S
+pub if_all : {A E : Type 0} (r : Result A E) (P Q R S : A → Type 0) → ((a : A) → P a → Q a → R a → S a) → IfOk r P
+    → IfOk r Q → IfOk r R → IfOk r S
 if_all (Ok a) P Q R S each p q t = each a p q t
 if_all (Err e) P Q R S each p q t = tt

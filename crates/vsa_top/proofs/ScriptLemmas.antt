@@ -54,7 +54,8 @@ pub record IsFed (second left : Option (List ℕ)) (reader : Reading) (room : �
   pub at : IsAt reader text
   pub size : length text + room ≡ second_limit
 
-pub fed_first : (reader new : Reading) (begun : List ℕ) (left : Option (List ℕ)) → reader ≡ record { text = []; error = None } → length begun ≤ second_limit
+pub fed_first : (reader new : Reading) (begun : List ℕ) (left : Option (List ℕ))
+    → reader ≡ record { text = []; error = None } → length begun ≤ second_limit
     → ((text : List ℕ) → IsAt reader text → IsAt new (text ++ begun)) → IsFed (begun_with begun left) left new (second_limit - length begun)
 fed_first reader new begun left is fits fed = record {
   text = begun;
@@ -83,20 +84,24 @@ script_at : (reader : Reading) (text numbers : List ℕ) → length text ≤ sec
 script_at reader text numbers fits denoted again (going none same) = record { fits = fits; denoted = sym (ap script_of same) ∙ denoted }
 script_at reader text numbers fits denoted again (refused line error less within) = absurd (again (script_error.Syntax line) error)
 
-pub script_at_end : (second left : Option (List ℕ)) (reader : Reading) (room : ℕ) (numbers : List ℕ) → IsFed second left reader room → IsAtEnd left
-    → script_of reader.text ≡ Ok numbers → ((error : ScriptError) → reader.error ≡ Some error → ⊥) → IfSome second (λ text. IsScript text numbers)
+pub script_at_end : (second left : Option (List ℕ)) (reader : Reading) (room : ℕ) (numbers : List ℕ)
+    → IsFed second left reader room → IsAtEnd left
+    → script_of reader.text ≡ Ok numbers → ((error : ScriptError) → reader.error ≡ Some error → ⊥)
+    → IfSome second (λ text. IsScript text numbers)
 script_at_end second left reader room numbers fed end denoted again =
     subst (λ s. IfSome s (λ text. IsScript text numbers)) (sym fed.whole)
     (at_end left fed.text (λ text. IsScript text numbers) end (script_at reader fed.text numbers (omega (arith, fed.size)) denoted again fed.at))
 
-lacks_at : (reader : Reading) (text : List ℕ) (error : ScriptError) → length text ≤ second_limit → (reader.error ≡ None → TellsWhole reader.text error)
+lacks_at : (reader : Reading) (text : List ℕ) (error : ScriptError) → length text ≤ second_limit
+    → (reader.error ≡ None → TellsWhole reader.text error)
     → ((held : ScriptError) → reader.error ≡ Some held → held ≡ error) → IsAt reader text → LacksScript text (refusal_of error)
 lacks_at reader text (script_error.Syntax line) fits tells again (going none same) = record { fits = fits; refused = sym (ap script_of same) ∙ tells none }
 lacks_at reader text (script_error.Syntax line) fits tells again (refused first error less within) =
     record { fits = fits; refused = within.0 ∙ ap Err (same_line first line (again (script_error.Syntax first) error)) }
 lacks_at reader text script_error.Memory fits tells again at = tt
 
-pub lacks_at_end : (second left : Option (List ℕ)) (reader : Reading) (room : ℕ) (error : ScriptError) → IsFed second left reader room → IsAtEnd left
+pub lacks_at_end : (second left : Option (List ℕ)) (reader : Reading) (room : ℕ) (error : ScriptError)
+    → IsFed second left reader room → IsAtEnd left
     → (reader.error ≡ None → TellsWhole reader.text error) → ((held : ScriptError) → reader.error ≡ Some held → held ≡ error)
     → IfSome second (λ text. LacksScript text (refusal_of error))
 lacks_at_end second left reader room error fed end tells again =
@@ -107,7 +112,8 @@ nothing_told : (second : Option (List ℕ)) → IfSome second (λ text. Unit {0}
 nothing_told None = tt
 nothing_told (Some text) = tt
 
-too_long : (left : Option (List ℕ)) (text : List ℕ) (room : ℕ) (buffer : List ℕ) (count : ℕ) (after : Option (List ℕ)) → Takes left count buffer after
+too_long : (left : Option (List ℕ)) (text : List ℕ) (room : ℕ) (buffer : List ℕ) (count : ℕ) (after : Option (List ℕ))
+    → Takes left count buffer after
     → length text + room ≡ second_limit → room < length (take count buffer) → IfSome (begun_with text left) (λ t. second_limit < length t)
 too_long None text room buffer count after taken size more = tt
 too_long (Some bytes) text room buffer count after taken size more =

@@ -26,7 +26,8 @@ pub record IsRead (status : Status) (input before after : Option (List ℕ)) (jo
 pub read_as : {words : List (String Global)} {status : Status} {input before after : Option (List ℕ)} {journal : List Event} {found : Option Reading}
     {reading : Reading} → found ≡ Some reading → IfSome found (λ r. (other : Reading) → Reads words other → other ≡ r)
     → IfSome found (λ r. IsRamRange (rules_of r)) → IfSome found (λ r. EndsInMemory (rules_of r)) → IfSome found IsBounded
-    → Answers reading status input before after journal → (other : Reading) → Reads words other → IsRead status input before after journal other
+    → Answers reading status input before after journal → (other : Reading) → Reads words other
+    → IsRead status input before after journal other
 read_as {words} {status} {input} {before} {after} {journal} {found} {reading} is alone range end bounded answer other reads =
     let same = some_of found reading (λ r. (o : Reading) → Reads words o → o ≡ r) is alone other reads in
     subst (IsRead status input before after journal) (sym same) record {

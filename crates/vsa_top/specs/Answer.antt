@@ -194,7 +194,8 @@ abbrev pub IsImageReply : Reading → List (Option ℕ) → (second : Option (Li
 IsImageReply (Analyse task) image second replied text journal =
     IsReportedOn task.target task.limits task.workers task.cert image replied text journal
 IsImageReply (Disasm target) image second replied text journal = (replied ≡ status.Done) × IsListing target image text × (journal ≡ [])
-IsImageReply (Run target steps) image second replied text journal = IsRun (run_under target steps image) second replied text × (journal ≡ [])
+IsImageReply (Run target steps) image second replied text journal =
+    IsRun (run_under target steps image) second replied text × (journal ≡ [])
 IsImageReply (Assert task) image second replied text journal = IsAsserted task image second replied text journal
 IsImageReply (Check task) image second replied text journal =
     IsCheckedOn task.target task.limits image second replied text × (journal ≡ [])
@@ -224,7 +225,8 @@ AreRefused answered before after =
 -- the answer to words that are a reading: the reply to the input or to what is made, as it was written, or a fault of the source or want of
 -- memory, with nothing written
 pub data Answers (reading : Reading) (answered : Status) (input before after : Option (List ℕ)) (journal : List Event) : Type 0 where
-  replied : (reply : Status) (text : List ℕ) → IsReply reading (input_of reading input) reply text journal → IsWritten reply text answered before after
+  replied : (reply : Status) (text : List ℕ) → IsReply reading (input_of reading input) reply text journal
+      → IsWritten reply text answered before after
       → Answers reading answered input before after journal
   unreplied : (answered ≡ status.ReadFault) ⊎ (answered ≡ status.Memory) → after ≡ before → journal ≡ []
       → Answers reading answered input before after journal

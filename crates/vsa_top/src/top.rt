@@ -132,7 +132,8 @@ pub fn vsa<R: Threads + Wait + Sync, S: Source, K: Sink, G: Gate + Sync>(
         → WritesOwn task (S.left source.old) (K.held sink.old) (K.held sink.new) }
     // Open is the status of an analysis alone: that of the input's image, with or without assertions, or that of a made
     // program.
-    ensures open_alone { (reading : AReading) → Reads words.now reading → result.status ≡ Status.Open → Analyses reading }
+    ensures open_alone { (reading : AReading) → Reads words.now reading → result.status ≡ Status.Open
+        → Analyses reading }
 
     // Words that aren't a reading are refused, or memory isn't there to tell; no others are.
     ensures usage { ((reading : AReading) → ¬ Reads words.now reading)

@@ -30,5 +30,6 @@ all_fit mode chip o all name.Steps = all 5 name.Ram (omega arith)
 all_fit mode chip o all name.Number = all 6 name.Ram (omega arith)
 all_fit mode chip o all name.Cert = all 7 name.Ram (omega arith)
 
-pub fit_at_end : (mode : Mode) (chip : ChipName) (o : Options) (i : ℕ) → i ≡ 8 → All (IsFitting mode chip o) (take i every_option) → Fits mode chip o
+pub fit_at_end : (mode : Mode) (chip : ChipName) (o : Options) (i : ℕ) → i ≡ 8
+    → All (IsFitting mode chip o) (take i every_option) → Fits mode chip o
 fit_at_end mode chip o i end held = all_fit mode chip o (subst (λ n. All (IsFitting mode chip o) (take n every_option)) end held)

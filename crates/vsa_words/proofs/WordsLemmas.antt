@@ -82,7 +82,8 @@ outside least most text number is refused other also =
     let same : other ≡ number = one_number text other number also.is is in
     refused (subst (λ n. least ≤ n) same also.no_less) (subst (λ n. n ≤ most) same also.no_more)
 
-one_within : (least most : ℕ) (text : List ℕ) (number other : ℕ) → IsNumberIn least most text number → IsNumberIn least most text other → number ≡ other
+one_within : (least most : ℕ) (text : List ℕ) (number other : ℕ) → IsNumberIn least most text number
+    → IsNumberIn least most text other → number ≡ other
 one_within least most text number other is also = one_number text number other is.is also.is
 
 one_for : (value : Value) (text : List ℕ) (number other : ℕ) → IsNumberFor value text number → IsNumberFor value text other → number ≡ other
@@ -100,10 +101,12 @@ one_said reads one None (Some a) b is also = absurd is
 one_said reads one (Some text) None b is also = absurd is
 one_said reads one (Some text) (Some a) None is also = absurd also
 
-one_number_said : (given : List ℕ → Option (List ℕ)) (option : OptionName) (m n : Option ℕ) → SaysNumber given option m → SaysNumber given option n → m ≡ n
+one_number_said : (given : List ℕ → Option (List ℕ)) (option : OptionName) (m n : Option ℕ) → SaysNumber given option m
+    → SaysNumber given option n → m ≡ n
 one_number_said given option m n = one_said (IsNumberFor (value_of option)) (one_for (value_of option)) (given (option_word option)) m n
 
-one_range_said : (given : List ℕ → Option (List ℕ)) (option : OptionName) (m n : Option Span) → SaysRange given option m → SaysRange given option n → m ≡ n
+one_range_said : (given : List ℕ → Option (List ℕ)) (option : OptionName) (m n : Option Span) → SaysRange given option m
+    → SaysRange given option n → m ≡ n
 one_range_said given option m n = one_said IsRange one_range (given (option_word option)) m n
 
 pub say_one : (given : List ℕ → Option (List ℕ)) (a b : Options) → Say given a → Say given b → a ≡ b
@@ -150,7 +153,8 @@ none_said {A} reads text given is none said says = of_some said (subst (λ t. Is
 abbrev pub IsSaidBy : (text_of : List ℕ → Option (List ℕ)) → Option Options → Type 0
 IsSaidBy text_of found = MatchOption found ((options : Options) → Say text_of options → ⊥) (Say text_of)
 
-said_like : (f g : List ℕ → Option (List ℕ)) → ((id : List ℕ) → f id ≡ g id) → (found : Option Options) → IsSaidBy f found → IsSaidBy g found
+said_like : (f g : List ℕ → Option (List ℕ)) → ((id : List ℕ) → f id ≡ g id) → (found : Option Options)
+    → IsSaidBy f found → IsSaidBy g found
 said_like f g like None none = λ options said. none options (say_like g f (λ id. sym (like id)) options said)
 said_like f g like (Some options) said = say_like f g like options said
 
@@ -220,7 +224,8 @@ ask_alone words mode chip options other found reads =
     (subst (λ c. Ask reads.mode c options other) chips (subst (λ o. Ask reads.mode reads.chip o other) same reads.ask))
 
 asked_only : (words : List (String Global)) (mode : Mode) (chip : ChipName) (options : Options) (reading : Option Reading)
-    → IsFound words (Some mode) (Some chip) (Some options) → IsAsked (Some mode) (Some chip) (Some options) reading → IsOnlyReading words reading
+    → IsFound words (Some mode) (Some chip) (Some options) → IsAsked (Some mode) (Some chip) (Some options) reading
+    → IsOnlyReading words reading
 asked_only words mode chip options None found none = λ other reads. none other (ask_alone words mode chip options other found reads)
 asked_only words mode chip options (Some reading) found asked = (
   record {
@@ -283,7 +288,8 @@ end_said given (Some span) is = range_end (given (codes "ram")) span is
 abbrev BoundOf : (least most : ℕ) → Option ℕ → Type 0
 BoundOf least most said = IfSome said (λ n. (least ≤ n) × (n ≤ most))
 
-bound_said : (text : Option (List ℕ)) (least most : ℕ) (said : Option ℕ) → IsSaid (IsNumberIn least most) text said → BoundOf least most said
+bound_said : (text : Option (List ℕ)) (least most : ℕ) (said : Option ℕ) → IsSaid (IsNumberIn least most) text said
+    → BoundOf least most said
 bound_said text least most None is = tt
 bound_said None least most (Some n) is = absurd is
 bound_said (Some text) least most (Some n) is = (is.no_less, is.no_more)
@@ -349,11 +355,13 @@ pub only_reads : (words : List (String Global)) (found : Option Reading) → IsO
 only_reads words None only = tt
 only_reads words (Some reading) only = only.0
 
-pub only_range : (words : List (String Global)) (found : Option Reading) → IsOnlyReading words found → IfSome found (λ reading. IsRamRange (rules_of reading))
+pub only_range : (words : List (String Global)) (found : Option Reading) → IsOnlyReading words found
+    → IfSome found (λ reading. IsRamRange (rules_of reading))
 only_range words None only = tt
 only_range words (Some reading) only = only.0.ask.stands
 
-pub only_end : (words : List (String Global)) (found : Option Reading) → IsOnlyReading words found → IfSome found (λ reading. EndsInMemory (rules_of reading))
+pub only_end : (words : List (String Global)) (found : Option Reading) → IsOnlyReading words found
+    → IfSome found (λ reading. EndsInMemory (rules_of reading))
 only_end words None only = tt
 only_end words (Some reading) only = (reads_within words reading only.0).0
 
@@ -366,6 +374,7 @@ pub only_alone : (words : List (String Global)) (found : Option Reading) → IsO
 only_alone words None only = tt
 only_alone words (Some reading) only = only.1
 
-pub only_none : (words : List (String Global)) (found : Option Reading) → IsOnlyReading words found → IfNone found ((reading : Reading) → Reads words reading → ⊥)
+pub only_none : (words : List (String Global)) (found : Option Reading) → IsOnlyReading words found
+    → IfNone found ((reading : Reading) → Reads words reading → ⊥)
 only_none words None only = only
 only_none words (Some reading) only = tt

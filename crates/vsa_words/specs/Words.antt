@@ -164,7 +164,8 @@ IsOnlyReading words found =
 
 -- what is found of a mode, a chip and options, where all are there
 abbrev pub IsAsked : Option Mode → Option ChipName → Option Options → Option Reading → Type 0
-IsAsked (Some mode) (Some chip) (Some options) found = MatchOption found ((reading : Reading) → Ask mode chip options reading → ⊥) (Ask mode chip options)
+IsAsked (Some mode) (Some chip) (Some options) found =
+    MatchOption found ((reading : Reading) → Ask mode chip options reading → ⊥) (Ask mode chip options)
 IsAsked (Some mode) (Some chip) None found = found ≡ None
 IsAsked (Some mode) None options found = found ≡ None
 IsAsked None chip options found = found ≡ None

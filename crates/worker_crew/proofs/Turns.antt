@@ -44,7 +44,8 @@ answers_claims seat us (t ∷ ts) =
     subst (λ l. Answers (us ++ t.unit ∷ []) (claim_events seat ts) l) (append_assoc us (t.unit ∷ []) (units_of ts)) (answers_claims seat (us ++ t.unit ∷ []) ts)
 
 -- the first of a list is taken
-pub first_taken : {X : Type 0} (xs : List X) (x : X) (ys : List X) → 0 < length xs → x ≡ slice_index_or xs 0 x → ys ≡ remove xs 0 → xs ≡ x ∷ ys
+pub first_taken : {X : Type 0} (xs : List X) (x : X) (ys : List X) → 0 < length xs → x ≡ slice_index_or xs 0 x
+    → ys ≡ remove xs 0 → xs ≡ x ∷ ys
 first_taken [] x ys some e d = absurd (omega arith)
 first_taken (z ∷ zs) x ys some e d = ap (λ w. w ∷ zs) (sym e) ∙ ap (λ l. x ∷ l) (sym d)
 
@@ -57,7 +58,8 @@ all_push P [] x a p = (p, tt)
 all_push P (y ∷ ys) x a p = (a.0, all_push P ys x a.1 p)
 
 -- one more of the tickets is worked on
-pub worked_more : {C B A : Type 0} (all : List (Out A)) (done : List (Done C B A)) (one : Done C B A) (t : Out A) (left : List (Out A)) → one.ticket ≡ t
+pub worked_more : {C B A : Type 0} (all : List (Out A)) (done : List (Done C B A)) (one : Done C B A) (t : Out A) (left : List (Out A))
+    → one.ticket ≡ t
     → all ≡ tickets_of done ++ t ∷ left → all ≡ tickets_of (done ++ one ∷ []) ++ left
 worked_more all done one t left own e =
     e ∙ ap (λ s. tickets_of done ++ s ∷ left) (sym own) ∙ sym (append_assoc (tickets_of done) (one.ticket ∷ []) left)
@@ -97,7 +99,8 @@ module _ {B : Type 0} where
   }
 
   -- a seat that served is ready again
-  pub ready_served : (table : TableId) (base : B) (u v : List WorkUnit) (a b : ShownSeat Event B) → Serves u v a b → IsReady table base a → IsReady table base b
+  pub ready_served : (table : TableId) (base : B) (u v : List WorkUnit) (a b : ShownSeat Event B) → Serves u v a b
+      → IsReady table base a → IsReady table base b
   ready_served table base u v a b s r =
       (ap (λ x. x.table) s.seat ∙ r.0, ap (λ x. x.holds) s.seat ∙ r.1, r.2 ∙ sym (ap (λ x. x.base) s.seat))
 
@@ -107,7 +110,8 @@ module _ {B : Type 0} where
     no_tickets table base s r = record { base = base; base_is = r.2; out = none_out (replay (analysis base) s.seen); seat = tt }
 
     -- a ticket that has waited longest is given back
-    pub back_serves : (a b : ShownSeat Event B) (t : Out A) (us : List WorkUnit) → Ends analysis a t (GiveBack t.seat t.unit) b → Serves (t.unit ∷ us) us a b
+    pub back_serves : (a b : ShownSeat Event B) (t : Out A) (us : List WorkUnit)
+        → Ends analysis a t (GiveBack t.seat t.unit) b → Serves (t.unit ∷ us) us a b
     back_serves a b t us e = record {
       log = e.log ++ GiveBack t.seat t.unit ∷ [];
       events = GiveBack t.seat t.unit ∷ [];
@@ -117,7 +121,8 @@ module _ {B : Type 0} where
     }
 
     -- works are posted, and units are claimed behind those that aren't
-    pub exchange_serves : {C : Type 0} (a b : ShownSeat Event B) (done : List (Done C B A)) (want share : ℕ) (r : Exchanged C B A) → Exchanges analysis a done want share r b
+    pub exchange_serves : {C : Type 0} (a b : ShownSeat Event B) (done : List (Done C B A)) (want share : ℕ) (r : Exchanged C B A)
+        → Exchanges analysis a done want share r b
         → Serves (units_of (tickets_of done)) (units_of (tickets_of r.unposted.items ++ r.tickets.items)) a b
     exchange_serves a b done want share r x =
         let posts = post_events (tickets_of x.posted) in
@@ -151,7 +156,8 @@ module _ {B : Type 0} where
         → TellsLast b want share unposted ts last → ts ≡ []
     told_finished b want share unposted ts last e h = let at : TellsLast b want share unposted ts Finished = subst (λ l. TellsLast b want share unposted ts l) e h in at.1
 
-    pub exchange_goes_on : {C : Type 0} (a b : ShownSeat Event B) (done : List (Done C B A)) (want share : ℕ) (r : Exchanged C B A) (tickets : List (Out A)) → tickets_of done ≡ tickets
+    pub exchange_goes_on : {C : Type 0} (a b : ShownSeat Event B) (done : List (Done C B A)) (want share : ℕ) (r : Exchanged C B A) (tickets : List (Out A))
+        → tickets_of done ≡ tickets
         → want ≤ 4 → (r.last ≡ Memory → ⊥) → Exchanges analysis a done want share r b → GoesOn analysis tickets a r.tickets.items b
     exchange_goes_on a b done want share r tickets same most other x =
         let few = told_few (replay (analysis x.base) b.seen) want share r.unposted.items r.tickets.items r.last other x.last_is in
@@ -163,7 +169,8 @@ module _ {B : Type 0} where
           few = omega arith;
         }
 
-    pub exchange_finished : {C : Type 0} (a b : ShownSeat Event B) (done : List (Done C B A)) (want share : ℕ) (r : Exchanged C B A) → Exchanges analysis a done want share r b
+    pub exchange_finished : {C : Type 0} (a b : ShownSeat Event B) (done : List (Done C B A)) (want share : ℕ) (r : Exchanged C B A)
+        → Exchanges analysis a done want share r b
         → r.last ≡ Finished → r.tickets.items ≡ []
     exchange_finished a b done want share r x e = told_finished (replay (analysis x.base) b.seen) want share r.unposted.items r.tickets.items r.last e x.last_is
 
@@ -183,7 +190,8 @@ module _ {B : Type 0} where
   pub works_answered : (a b : ShownSeat Event B) → Works a b → EachAnswered (seats_known a) → EachAnswered (seats_known b)
   works_answered a b w h = subst (λ s. EachAnswered (seats_known s)) (sym w.seat) (answers_then [] a.mine w.events [] [] h.0 w.answered, h.1)
 
-  pub joined_answered : (a b : ShownSeat Event B) → EachAnswered (seats_known a) → EachAnswered (seats_known b) → EachAnswered (seats_known (seats_joined a b))
+  pub joined_answered : (a b : ShownSeat Event B) → EachAnswered (seats_known a) → EachAnswered (seats_known b)
+      → EachAnswered (seats_known (seats_joined a b))
   joined_answered a b h k = (h.0, each_append a.ended (seats_known b) h.1 k)
 
   -- a seat that has worked has taken in none
@@ -198,7 +206,8 @@ module _ {B : Type 0} where
   }
 
   -- one that gives a seat, and takes it in once it has worked
-  pub takes_in_more : (a b split new other joined : ShownSeat Event B) → TakesIn a b → split ≡ seat_split b → new ≡ new_seat b → Works new other
+  pub takes_in_more : (a b split new other joined : ShownSeat Event B) → TakesIn a b → split ≡ seat_split b
+      → new ≡ new_seat b → Works new other
       → joined ≡ seats_joined split other → StartsWith joined.seen split.seen → TakesIn a joined
   takes_in_more a b split new other joined t s n w j begins =
       let one : other.stands ≡ 1 = ap (λ x. x.stands) w.seat ∙ ap (λ x. x.stands) n in

@@ -26,7 +26,8 @@ abbrev pub BringsHome : {A : Type 0} → Analysis A → List Event → WorkUnit 
 BringsHome m journal unit = IsFirst (replay m journal) unit → (replay m journal).out ≡ []
     → (replay m ((journal ++ Claim 0 unit ∷ []) ++ Post 0 unit ∷ [])).out ≡ []
 
-pub behind_turn : {A : Type 0} (m : Analysis A) (journal : List Event) (unit : WorkUnit) → BringsHome m journal unit → IsBetweenTurns m journal
+pub behind_turn : {A : Type 0} (m : Analysis A) (journal : List Event) (unit : WorkUnit) → BringsHome m journal unit
+    → IsBetweenTurns m journal
     → IsFirst (replay m journal) unit → IsBetweenTurns m ((journal ++ Claim 0 unit ∷ []) ++ Post 0 unit ∷ [])
 behind_turn m journal unit home between first = record {
   none_out = home first between.none_out;

@@ -10,7 +10,8 @@ use Rattle.chip_flow.specs.Works.{may_be as the_may_be}
 use Rattle.chip_flow.proofs.returning.may_be.Goals as goal
 
 -- no byte set has a greater number
-none_far : ((m v : ℕ) (set : Form) → IsNormal m set → Has m set v → v < m) → (set : Form) (v : ℕ) → IsNormal 256 set → 256 ≤ v → false ≡ is_in 256 set v
+none_far : ((m v : ℕ) (set : Form) → IsNormal m set → Has m set v → v < m) → (set : Form) (v : ℕ) → IsNormal 256 set
+    → 256 ≤ v → false ≡ is_in 256 set v
 none_far below set v normal far =
     let all = members 256 set in
     elim (cases_Bool (list_any (λ x. x == v) all)) [

@@ -13,7 +13,8 @@ use Rattle.msp430_entry.proofs.coming.each.Goals as goal
 one_more : (p : ℕ → Bool) (n : ℕ) → filter p (range_with_len 0 (n + 1)) ≡ filter p (range_with_len 0 n) ++ cond (p n) (n ∷ []) []
 one_more p n = simp map-id at (filter_of_map_range_with_len_more p (λ x. x) 0 n n (omega arith))
 
-one_added : (f : ℕ → List Coming) (p : ℕ → Bool) (n : ℕ) → flat_map f (filter p (range_with_len 0 (n + 1))) ≡ flat_map f (filter p (range_with_len 0 n)) ++ (if p n then f n else [])
+one_added : (f : ℕ → List Coming) (p : ℕ → Bool) (n : ℕ)
+    → flat_map f (filter p (range_with_len 0 (n + 1))) ≡ flat_map f (filter p (range_with_len 0 n)) ++ (if p n then f n else [])
 one_added f p n = elim (cases_Bool (p n)) [
   | inl here ↦ rw (one_more p n, here) (grind (arith, common_steps, flat_map-append))
   | inr other ↦ rw (one_more p n, other) (grind (arith, common_steps))

@@ -11,6 +11,7 @@ use Rattle.round_core.proofs.former.live_works.Given as goal
 abbrev pub invariant-loop-place : goal.invariant-loop-place
 invariant-loop-place g l = record {
   len : length l.works.items ≡ l.place-end;
-  are_marked : (rows : List (WorkUnit × (Work _ × Versions))) → l.places.entries ≡ map mark_part rows → l.fn.works.items ≡ map value_part rows
+  are_marked : (rows : List (WorkUnit × (Work _ × Versions))) → l.places.entries ≡ map mark_part rows
+      → l.fn.works.items ≡ map value_part rows
       → l.works.items ≡ marked (is_live (map done_of rows)) l.place (map value_part rows);
 }

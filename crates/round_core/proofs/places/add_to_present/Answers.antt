@@ -13,7 +13,8 @@ none_value : {X : Type 0} → (o : Option X) → None ≡ o → IsSome o → ⊥
 none_value None e h = let f : false ≡ true = h in cc
 none_value (Some y) e h = absurd (cc)
 
-held_of : (o : Option (Vec ℕ Global)) (v : Vec ℕ Global) → Some v ≡ o → (p : ℕ) → IsIn p (unwrap_or (option_map (λ (v : Vec ℕ Global). v.items) o) []) → IsIn p v.items
+held_of : (o : Option (Vec ℕ Global)) (v : Vec ℕ Global) → Some v ≡ o → (p : ℕ)
+    → IsIn p (unwrap_or (option_map (λ (v : Vec ℕ Global). v.items) o) []) → IsIn p v.items
 held_of None v e p h = absurd h
 held_of (Some w) v e p h = let same : w ≡ v = cc in subst (λ (u : Vec ℕ Global). IsIn p u.items) same h
 

@@ -13,7 +13,8 @@ use Rattle.worker_crew.proofs.Turns.{joined_answered, works_answered}
 use Rattle.worker_crew.proofs.crew.+crew.Goals as goal
 
 -- what the helper's closure captures may go to another thread
-help_send : (g : Over) (κs : _) → IsSync (param 0 g.row.R) → IsSync (param 1 g.row.C) → IsSync (param 2 g.row.G) → IsSend (param 4 g.row.C-Abs)
+help_send : (g : Over) (κs : _) → IsSync (param 0 g.row.R) → IsSync (param 1 g.row.C) → IsSync (param 2 g.row.G)
+    → IsSend (param 4 g.row.C-Abs)
     → IsSend (param 1 (arg-2-1 g.row.R g.row.C g.row.G g.row.C-Base g.row.C-Abs g.R.laws g.C.laws g.G.laws g.C.Base.laws g.C.Abs.laws g.R.Threads g.R.Threads-dict g.R.Wait g.R.Wait-dict g.C.Chip g.C.Chip-dict g.G.Gate g.G.Gate-dict g.C.Base.Destruct-dict g.C.Abs.Destruct-dict κs))
 help_send g κs r c gate a = search (sendable, crosses, calls_sync, shared_sync, facts_send, seat_send) depth 40
 

@@ -4,7 +4,8 @@ use Rattle.image.specs.Image.{byte_at, Meets}
 use Rattle.image.proofs.address_map.Image.meets.Goals as goal
 
 -- no address further away is another one
-none_met : (image : List (Option ℕ)) (lo len n : ℕ) → min len 65536 ≤ n → ((k : ℕ) → k < n → is_some (byte_at image ((lo + k) % 65536)) ≡ false)
+none_met : (image : List (Option ℕ)) (lo len n : ℕ) → min len 65536 ≤ n
+    → ((k : ℕ) → k < n → is_some (byte_at image ((lo + k) % 65536)) ≡ false)
     → Meets image lo len → ⊥
 none_met image lo len n all none met =
     let same : (lo + met.0 % 65536) % 65536 ≡ (lo + met.0) % 65536 = omega arith in
