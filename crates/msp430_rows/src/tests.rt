@@ -1,10 +1,5 @@
-mod branches;
 mod entries;
 mod given;
-mod mirrored;
-mod operands;
 mod results;
 mod resuming;
-mod returns;
-mod status;
-mod worked;
+mod stores;

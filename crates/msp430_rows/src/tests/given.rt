@@ -1,58 +1,56 @@
-//! What rows begin with: a device, sets and words, bits of SR, and an instruction at F000h.
+//! What rows begin with, and how they are held against answers.
 
-ghost use Rattle.std.specs.Prelude.{◌≡◌, IfOk};
+ghost use Rattle.std.specs.Prelude.{IfOk};
 ghost use Rattle.msp430_chip.specs.Memory.{HasRam};
 
-use abs_memory::CellList;
-use entry_value::{Cells, Word};
+use entry_value::{Entry, Word};
 use image::{Image, RamRange};
-use msp430_alu::{Here, Worked, register_word};
 use msp430_chip::Device;
-use msp430_decode::Register;
-use msp430_state::State;
 use std::alloc::Global;
+use std::fmt::Debug;
+use std::process::Abort;
 use std::test::Fail;
-use value_bits::Tri;
 use value_set::Vs16;
 
-/// A device with this image, whose RAM stands from 0200h to 02FFh.
-pub(crate) fn device_with(image: Image) -> Device
-    ensures { HasRam result }
+/// Of the vectors 0 is erased, 1 is FFFEh and 9 is F101h; the others aren't in the image.
+fn image(alloc: Global) -> Result<Image, Fail> {
+    let mut bytes = Vec::new(alloc);
+    bytes.resize(65536, None)?;
+    bytes[0xFFE0] = Some(0xFF);
+    bytes[0xFFE1] = Some(0xFF);
+    bytes[0xFFE2] = Some(0xFE);
+    bytes[0xFFE3] = Some(0xFF);
+    bytes[0xFFF2] = Some(0x01);
+    bytes[0xFFF3] = Some(0xF1);
+    Ok(Image::new(bytes))
+}
+
+/// RAM stands from 0200h to 02FFh.
+pub(crate) fn device(alloc: Global) -> Result<Device, Fail>
+    ensures { IfOk result HasRam }
 {
-    Device {
-        image,
+    Ok(Device {
+        image: image(alloc)?,
         ram: RamRange {
             lo: 0x0200,
             hi: 0x02FF,
             mirror: None,
         },
-    }
+    })
 }
 
-/// The same with a program of these bytes, at F000h.
-pub(crate) fn device(alloc: Global, program: &[u8]) -> Result<Device, Fail>
+/// RAM stands from 1100h to 38FFh, of which 0200h to 09FFh show the first 2048 bytes again.
+pub(crate) fn mirrored_device(alloc: Global) -> Result<Device, Fail>
     ensures { IfOk result HasRam }
 {
-    Ok(device_with(Image::with_bytes(alloc, 0xF000, program)?))
-}
-
-/// An instruction of so many bytes at F000h, in an interrupt's frame or in none.
-pub(crate) fn here<'a>(
-    device: &'a Device,
-    framed: bool,
-    state: &'a State<CellList>,
-    len: u8,
-) -> Here<'a, CellList>
-    ensures device { result.device.now ≡ device.now }
-    ensures len { result.len ≡ len }
-{
-    Here {
-        device,
-        framed,
-        state,
-        pc: 0xF000,
-        len,
-    }
+    Ok(Device {
+        image: image(alloc)?,
+        ram: RamRange {
+            lo: 0x1100,
+            hi: 0x38FF,
+            mirror: Some((0x0200, 0x09FF)),
+        },
+    })
 }
 
 pub(crate) fn one(value: u16) -> Vs16 {
@@ -68,36 +66,30 @@ pub(crate) fn run(base: u16, stride: u16, count: u32) -> Vs16 {
     Vs16::run(base, stride, count).unwrap_or(Vs16::any())
 }
 
-/// A word of which no place is known that it came from.
-pub(crate) fn plain(set: Vs16) -> Word {
-    Word { set, entry: None }
-}
-
-pub(crate) fn give_word(state: &mut State<CellList>, at: u16, set: Vs16) -> Result<(), Fail> {
-    state.cells.write_one(at, 2, plain(set))?;
-    Ok(())
-}
-
-pub(crate) fn in_register(worked: &Worked<CellList>, register: Register) -> Vs16 {
-    register_word(&worked.after, &one(0), register).set
-}
-
-pub(crate) fn tri(bit: char) -> Tri {
-    match bit {
-        '0' => Tri::Zero,
-        '1' => Tri::One,
-        _ => Tri::Either,
+/// A number of which no place is known that it came from.
+pub(crate) fn number(value: u16) -> Word {
+    Word {
+        set: one(value),
+        entry: None,
     }
 }
 
-/// The bits of SR from V down to C, where `?` is unknown.
-pub(crate) fn bits(text: &str) -> [Tri; 9] {
-    let mut bits = [Tri::Either; 9];
-    let mut all = text.chars();
-    for place in 0..9 {
-        if let Some(bit) = all.next() {
-            bits[8 - place] = tri(bit);
-        }
+/// That a value is what a place held, behind an AND.
+pub(crate) fn from(place: u16, and: u16) -> Option<Entry> {
+    Some(Entry { place, and, or: 0 })
+}
+
+/// A number that a place held.
+pub(crate) fn related(value: u16, place: u16) -> Word {
+    Word {
+        set: one(value),
+        entry: from(place, 0xFFFF),
     }
-    bits
+}
+
+/// Each answer is the one beside it.
+pub(crate) fn are_equal<T: Debug + PartialEq>(rt: &impl Abort, rows: &[(T, T)]) {
+    for (found, wanted) in rows {
+        assert_eq!(rt; *found, *wanted);
+    }
 }
