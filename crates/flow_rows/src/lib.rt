@@ -1,6 +1,8 @@
-//! Rows of the analyses of both chips, asked by themselves.
+//! Rows of the analyses of both chips, asked by themselves, and of copies of devices.
 #![tactic(auto)]
 
+#[cfg(test)]
+mod devices;
 #[cfg(test)]
 mod images;
 #[cfg(test)]

@@ -16,35 +16,56 @@
 //!   for a write, and its addresses.
 //! - `PC=back`: to the state that the interrupt suspended. `never`: a way of a jump that can't be taken.
 //!
+//! Other rows begin with a word in place of an address:
+//!
+//! - `join` has two states with `+` between them, and behind `>` what is known of both that isn't what the first one says.
+//!   Nothing stands there just where the second one says all that the first one does. `widen` is the same, up to the marks
+//!   0, 1 and 5.
+//! - `top` has what is known of every state.
+//! - `comings` has the interrupts that may come in a state, each by its source, its level and SP: `3H=07`. `enter` has the
+//!   address where such a one comes, and what its handler knows that the state in front of it doesn't say.
+//! - `resume` has the address where an interrupt came where SP was 7, what was known there, and behind `+` what the exit of
+//!   its handler knows; behind `>` what is known where the suspended state goes on that wasn't known in it.
+//!
 //! A line of `#` says what the next ones show.
 #![tactic(auto)]
 
 mod facts;
-mod holding;
+mod instructions;
+mod interrupts;
 mod naming;
+mod pairs;
 mod sets;
 mod showing;
+mod states;
 
-use crate::holding::holds;
-use std::io::{self, BufRead, BufReader};
+use crate::instructions::runs;
+use crate::interrupts::{come, enters};
+use crate::pairs::{grows, resumes};
+use crate::states::is_top;
+use no_memory::Memory;
+use row_parts::tell;
+use std::alloc::{AllocError, Global};
+use std::io;
+
+/// Whether a line holds. One of another form doesn't.
+fn holds(alloc: Global, line: &str) -> Result<bool, Memory> {
+    let (front, after) = line.split_once('>').unwrap_or(("", ""));
+    let (form, words) = front.split_once(' ').unwrap_or(("", ""));
+    match form {
+        "join" | "widen" => grows(alloc, form, words, after),
+        "top" => is_top(alloc, words, after),
+        "comings" => come(alloc, words, after),
+        "enter" => enters(alloc, words, after),
+        "resume" => resumes(alloc, words, after),
+        _ => runs(alloc, line),
+    }
+}
 
 fn main(rt: HostRuntime) -> io::Result<()> {
     let alloc = rt.alloc();
-    let mut count = 0u32;
-    for line in BufReader::new(alloc, rt.reader())?.lines(alloc) {
-        let line = line?;
-        if line.as_str().starts_with('#') {
-            continue;
-        }
-        let Ok(held) = holds(alloc, line.as_str()) else {
-            return Err(io::Error::from(io::ErrorKind::OutOfMemory));
-        };
-        if held {
-            count = count.wrapping_add(1);
-        } else {
-            println!(rt; "doesn't hold: {line}")?;
-        }
-    }
-    println!(rt; "{count} rows hold")?;
-    Ok(())
+    tell(rt, |line| match holds(alloc, line) {
+        Ok(held) => Ok(Some(held)),
+        Err(Memory) => Err(AllocError),
+    })
 }

@@ -1,64 +1,18 @@
-//! Whether a row holds.
+//! Rows of instructions.
 
-use crate::naming::put;
 use crate::sets::{number_of, words_of};
 use crate::showing::is_access;
+use crate::states::{is_same, put_all, state_of};
 use abs_memory::CellList;
 use call_context::Frame;
-use hex_digits::bytes;
 use image::Image;
 use mcs51_control::goes_back;
 use mcs51_decode::{Instr, decode};
 use mcs51_flow::{Ran, Way, run};
 use mcs51_state::State;
 use no_memory::Memory;
+use row_parts::CodeRow;
 use std::alloc::Global;
-
-/// Whether both say the same.
-fn is_same(one: &State<CellList>, other: &State<CellList>) -> bool {
-    one.within(other) && other.within(one)
-}
-
-/// The frame that a word says.
-fn frame_of(sp: &str) -> Frame {
-    Frame::Irq {
-        vector: 0,
-        sp: number_of(sp),
-        level: 1,
-    }
-}
-
-/// What a row says in front of the instruction.
-fn before(alloc: Global, words: &str) -> Result<Option<(Frame, State<CellList>)>, Memory> {
-    let mut state = State::first(alloc)?;
-    let mut frame = Frame::Base;
-    for word in words.split(' ') {
-        match word.split_once('=') {
-            Some(("frame", sp)) => frame = frame_of(sp),
-            Some((name, value)) => {
-                if !put(&mut state, name, value)? {
-                    return Ok(None);
-                }
-            }
-            None if word.is_empty() => {}
-            None => return Ok(None),
-        }
-    }
-    Ok(Some((frame, state)))
-}
-
-/// Puts all that a row says behind the instruction into the state in front of it, but for PC.
-fn put_all(state: &mut State<CellList>, words: &str) -> Result<bool, Memory> {
-    for word in words.split(' ') {
-        if let Some((name, value)) = word.split_once('=')
-            && name != "PC"
-            && !put(state, name, value)?
-        {
-            return Ok(false);
-        }
-    }
-    Ok(true)
-}
 
 /// Whether the accesses of a row are those of the instruction, in order.
 fn are_shown(ran: &Ran<CellList>, words: &str) -> bool {
@@ -156,17 +110,15 @@ fn does(
     Ok(goes_on(&ran.way, instr.following(pc), place, &wanted))
 }
 
-/// Whether a line holds. One of another form doesn't.
-pub fn holds(alloc: Global, line: &str) -> Result<bool, Memory> {
-    let (front, after) = line.split_once('>').unwrap_or(("", ""));
-    let (pc, rest) = front.split_once(' ').unwrap_or(("", ""));
-    let (code, words) = rest.split_once(' ').unwrap_or(("", ""));
-    let (Some(pc), Some(code)) = (number_of(pc), bytes(alloc, code.as_bytes())?) else {
+/// Whether a row of an instruction holds.
+pub fn runs(alloc: Global, line: &str) -> Result<bool, Memory> {
+    let Some(row) = CodeRow::of(alloc, line)? else {
         return Ok(false);
     };
-    let image = Image::with_bytes(alloc, pc, &code)?;
-    let (Ok((instr, _)), Some((frame, at))) = (decode(&image, pc), before(alloc, words)?) else {
+    let (words, after) = row.rest.split_once('>').unwrap_or(("", ""));
+    let (Ok((instr, _)), Some((frame, at))) = (decode(&row.image, row.pc), state_of(alloc, words)?)
+    else {
         return Ok(false);
     };
-    does(alloc, &image, pc, &instr, &frame, &at, after)
+    does(alloc, &row.image, row.pc, &instr, &frame, &at, after)
 }
