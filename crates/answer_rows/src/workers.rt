@@ -1,15 +1,12 @@
 //! That two workers work at once.
 
-use crate::calls::call;
+use std::sync::Wait;
 use std::sync::atomic::AtomicU64;
 use std::sync::atomic::Ordering::SeqCst;
-use std::test::Fail;
 use std::thread;
-use vsa_top::{Event, Gate, Status};
-
-/// A lamp and a timer.
-const LAMP: &str =
-    ":10F0000031408002B240805A2001D2D32200B24067\n:10F010001000620132D23A4005001A83FE23FB3F02\n:0CF020000A121A43C2EA21003A41001310\n:02FFF20020F0FD\n:02FFFE0000F011\n:00000001FF\n";
+use std::thread::Threads;
+use vsa_io::{MemSink, MemSource};
+use vsa_top::{Event, Gate, Status, vsa};
 
 /// What one of two seats told of itself.
 #[derive(Drop)]
@@ -89,24 +86,30 @@ fn counts_of(journal: &[Event], seat: u32) -> (u64, u64) {
     (claims, posts)
 }
 
-/// Each seat has as many claims and posts in the journal as it told the gate, and both of them posted: a program that runs
-/// one seat alone never gets past the held claim.
-#[test]
-fn row_of_two_workers_at_once(rt: HostRuntime) -> Result<(), Fail> {
+/// Whether each seat has as many claims and posts in the journal as it told the gate, and both of them posted: a program that
+/// runs one seat alone never gets past the held claim.
+pub fn work_at_once<R: Threads + Wait + AllocGlobal + Sync>(
+    rt: &R,
+    words: &[String],
+    source: &mut MemSource,
+    sink: &mut MemSink,
+) -> bool {
     let gate = Holding {
         calls: AtomicU64::new(0),
         first: told_nothing(),
         other: told_nothing(),
         late: AtomicU64::new(0),
     };
-    let (outcome, _) = call(&rt, "analyse msp430 --workers 2", LAMP, &gate)?;
-    assert_eq!(rt; outcome.status, Status::Done);
-    assert_eq!(rt; gate.late.load(SeqCst), 0);
+    let outcome = vsa(rt, rt.alloc(), words, source, sink, &gate);
+    if outcome.status != Status::Done || gate.late.load(SeqCst) != 0 {
+        return false;
+    }
     for seat in 0..2 {
         let told = gate.told(seat);
         let counts = (told.before.load(SeqCst), told.after.load(SeqCst));
-        assert_eq!(rt; counts_of(outcome.journal.as_slice(), seat), counts);
-        assert!(rt; 0 < counts.1);
+        if counts_of(outcome.journal.as_slice(), seat) != counts || counts.1 == 0 {
+            return false;
+        }
     }
-    Ok(())
+    true
 }
