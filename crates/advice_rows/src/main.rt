@@ -24,10 +24,11 @@ mod words;
 use crate::questions::asks;
 use crate::reports::{overwritten, vain};
 use crate::sources::{address, numbers};
-use crate::texts::{binary, input, memory, progress, text_of};
+use crate::texts::{binary, input, memory, progress};
 use crate::words::{number, range, slip, usage};
+use row_parts::{add_line, tell, text_of};
 use std::alloc::{AllocError, Global};
-use std::io::{self, BufRead, BufReader};
+use std::io;
 
 /// What is said of what a row asks about a text.
 fn said(alloc: Global, word: &str, asked: &str, text: &str) -> Result<String, AllocError> {
@@ -63,10 +64,7 @@ fn take(alloc: Global, text: &mut String, line: &str) -> Result<Option<bool>, Al
     match word {
         "" | "#" => return Ok(None),
         "text" => *text = text_of(alloc, rest)?,
-        "+" => {
-            text.push_str(rest)?;
-            text.push('\n')?;
-        }
+        "+" => add_line(text, rest)?,
         _ => {
             let (asked, part) = rest.split_once('|').unwrap_or((rest, ""));
             let said = said(alloc, word, asked.trim_end(), text.as_str())?;
@@ -79,15 +77,5 @@ fn take(alloc: Global, text: &mut String, line: &str) -> Result<Option<bool>, Al
 fn main(rt: HostRuntime) -> io::Result<()> {
     let alloc = rt.alloc();
     let mut text = String::new(alloc);
-    let mut count = 0u32;
-    for line in BufReader::new(alloc, rt.reader())?.lines(alloc) {
-        let line = line?;
-        match take(alloc, &mut text, line.as_str())? {
-            Some(true) => count = count.wrapping_add(1),
-            Some(false) => println!(rt; "doesn't hold: {line}")?,
-            None => {}
-        }
-    }
-    println!(rt; "{count} rows hold")?;
-    Ok(())
+    tell(rt, |line| take(alloc, &mut text, line))
 }

@@ -1,7 +1,7 @@
 //! What a run asks whose script ends too early.
 
-use crate::words::words_of;
 use hex_digits::bytes;
+use row_parts::words_of;
 use std::alloc::{AllocError, Global};
 use vsa_advice::{asked_of, question_text};
 

@@ -1,7 +1,7 @@
 //! What is seen of a report.
 
-use crate::words::words_of;
 use report_watch::{Seen, Variable, Watch};
+use row_parts::words_of;
 use std::alloc::{AllocError, Global};
 use vsa_advice::watch_of;
 

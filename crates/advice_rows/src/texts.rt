@@ -1,15 +1,9 @@
 //! What is said of inputs, and of how far an analysis is.
 
 use hex_digits::bytes;
+use row_parts::text_of;
 use std::alloc::{AllocError, Global};
 use vsa_advice::{line_of, megabytes_in, other_input};
-
-/// The text that a row writes with `\n`, `\r` and `\t`.
-pub fn text_of(alloc: Global, written: &str) -> Result<String, AllocError> {
-    let text = written.replace(alloc, "\\n", "\n")?;
-    let text = text.as_str().replace(alloc, "\\r", "\r")?;
-    text.as_str().replace(alloc, "\\t", "\t")
-}
 
 /// What an input is that begins with these bytes.
 fn said_of(alloc: Global, first: &[u8]) -> Result<String, AllocError> {

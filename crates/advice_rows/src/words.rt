@@ -1,17 +1,9 @@
 //! What is said of the words of a command line.
 
+use row_parts::words_of;
 use std::alloc::{AllocError, Global};
 use vsa_advice::{Slip, USAGE, slip_of};
 use vsa_words::{OptionName, Value, number_in, range_of};
-
-/// The words of a text with blanks between them.
-pub fn words_of(alloc: Global, text: &str) -> Result<Vec<String>, AllocError> {
-    let mut words = Vec::new(alloc);
-    for word in text.split_ascii_whitespace() {
-        words.push(String::from_str(alloc, word)?)?;
-    }
-    Ok(words)
-}
 
 /// What is wrong with words.
 pub fn slip(alloc: Global, asked: &str) -> Result<String, AllocError> {

@@ -2,11 +2,14 @@
 //! lines of the standard input hold, and which don't.
 //!
 //! - `input TEXT` begins an input, and `+ LINE` adds a line to it. `feeds COUNT` adds line feeds, until it has so many bytes.
-//! - `answer TEXT` begins an answer, and `> LINE` adds a line to it. It is all that is written, or what it begins with behind
-//!   `front`, or ends with behind `back`.
+//! - `answer TEXT` begins an answer, `> LINE` adds a line to it, and `repeat COUNT TEXT` a text so many times. It is all that is
+//!   written, or what it begins with behind `front`, or ends with behind `back`; behind `moves` it is the lines of a report that
+//!   begin with E or M.
 //! - `source PIECE CALL ..`: how many bytes a read gives, and which calls fail. `sink PIECE ROOM CALL ..`: how many a write
 //!   takes, and in all, and which calls fail. `sound` goes back to streams without a fault, by pieces of one byte and of 4,096.
 //! - `times COUNT`: how often the rows behind it are asked.
+//! - `listing AT:DIGITS,..` is a row: the answer is the list of an image of the MSP430 with these bytes alone, which perhaps no
+//!   reader takes. `at-once WORDS` is one too: the call by these words on the input has two workers work at once.
 //! - A line that begins with the name of a status is a row, as `STATUS WORDS`: the call by these words on the input answers this
 //!   status and that answer.
 //!
@@ -15,21 +18,13 @@
 
 mod rows;
 mod streams;
+mod workers;
 
 use crate::rows::Rows;
-use std::io::{self, BufRead, BufReader};
+use row_parts::tell;
+use std::io;
 
 fn main(rt: HostRuntime) -> io::Result<()> {
     let mut rows = Rows::new(rt.alloc());
-    let mut count = 0u32;
-    for line in BufReader::new(rt.alloc(), rt.reader())?.lines(rt.alloc()) {
-        let line = line?;
-        match rows.take(&rt, line.as_str())? {
-            Some(true) => count = count.wrapping_add(1),
-            Some(false) => println!(rt; "doesn't hold: {line}")?,
-            None => {}
-        }
-    }
-    println!(rt; "{count} rows hold")?;
-    Ok(())
+    tell(rt, |line| rows.take(&rt, line))
 }

@@ -7,19 +7,13 @@ use std::alloc::{AllocError, Global};
 /// More than any answer has.
 pub const ROOM: usize = 16384;
 
-/// How many bytes a call gives or takes: at least one.
-pub fn piece_of(bytes: usize) -> usize
-    ensures { 0 < result }
-{
-    if bytes == 0 { 1 } else { bytes }
-}
-
 /// How a stream goes: bytes a call, bytes in all, and the calls that fail.
 #[derive(Drop)]
 pub struct Way {
     pub piece: usize,
     pub room: usize,
     pub failing: Vec<u64>,
+    ghost some: { 0 < piece },
 }
 
 impl Way {
@@ -42,7 +36,7 @@ impl Way {
             failing.push(call.parse::<u64>().unwrap_or(0))?;
         }
         Ok(Way {
-            piece: piece.parse::<usize>().unwrap_or(1),
+            piece: piece.parse::<usize>().unwrap_or(1).max(1),
             room,
             failing,
         })

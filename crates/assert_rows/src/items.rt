@@ -3,186 +3,99 @@
 use assert_check::{Assertion, breaks};
 use call_context::{InstrBytes, Item, Set};
 use chip_numbers::Space;
-use std::process::Abort;
-use std::test::Fail;
 use value_set::{Vs8, Vs16};
 
-/// A stack pointer at F000h.
-fn stack_at(at: Set) -> Item {
-    Item::Stack { pc: 0xF000, at }
+/// A number of at most four hexadecimal digits.
+fn word_of(digits: &str) -> Option<u16> {
+    u16::from_str_radix(digits, 16).ok()
 }
 
-/// The word range of the stack, at F000h alone.
-fn stack(lo: u16, hi: u16) -> Assertion {
-    Assertion::Stack {
-        from: 0xF000,
-        to: 0xF000,
-        lo,
-        hi,
+/// Both ends of a range.
+fn range_of(text: &str) -> Option<(u16, u16)> {
+    let (lo, hi) = text.split_once('-')?;
+    Some((word_of(lo)?, word_of(hi)?))
+}
+
+/// The space of a name.
+fn space_of(name: &str) -> Option<Space> {
+    match name {
+        "mem" => Some(Space::Mem),
+        "code" => Some(Space::Code),
+        "sfr" => Some(Space::Sfr),
+        "xram" => Some(Space::Xram),
+        _ => None,
     }
 }
 
-/// An access of the MSP430 at one address.
-fn access(write: bool, size: u8, at: u16) -> Item {
-    Item::Access {
+/// A set of words, or behind `b` one of bytes.
+fn set_of(text: &str) -> Option<Set> {
+    if let Some((base, rest)) = text.split_once('/') {
+        let (stride, count) = rest.split_once('/')?;
+        let set = Vs16::run(word_of(base)?, word_of(stride)?, u32::from(word_of(count)?))?;
+        return Some(Set::W(set));
+    }
+    match text.strip_prefix('b') {
+        Some("*") => Some(Set::B(Vs8::any())),
+        Some(digits) => Some(Set::B(Vs8::one(u8::from_str_radix(digits, 16).ok()?))),
+        None => Some(Set::W(Vs16::one(word_of(text)?))),
+    }
+}
+
+/// An assertion, of which a range may end before it begins.
+fn assertion_of(text: &str) -> Option<Assertion> {
+    let (kind, rest) = text.split_once(' ')?;
+    if kind == "noexec" {
+        let (lo, hi) = range_of(rest)?;
+        return Some(Assertion::NoExec { lo, hi });
+    }
+    let (place, range) = rest.split_once(' ')?;
+    let (lo, hi) = range_of(range)?;
+    if kind == "stack" {
+        let (from, to) = range_of(place)?;
+        return Some(Assertion::Stack { from, to, lo, hi });
+    }
+    let space = space_of(place)?;
+    match kind {
+        "noread" => Some(Assertion::NoRead { space, lo, hi }),
+        "nowrite" => Some(Assertion::NoWrite { space, lo, hi }),
+        _ => None,
+    }
+}
+
+/// An access of so many bytes.
+fn access_of(kind: &str, space: &str, set: &str) -> Option<Item> {
+    let write = kind.starts_with('w');
+    let size = kind.trim_start_matches(['r', 'w']).parse::<u8>().ok()?;
+    Some(Item::Access {
         pc: 0xF000,
-        space: Space::Mem,
+        space: space_of(space)?,
         write,
         size,
-        at: Set::W(Vs16::one(at)),
+        at: set_of(set)?,
+    })
+}
+
+/// An item at F000h, or an instruction of two bytes.
+fn item_of(text: &str) -> Option<Item> {
+    let (kind, rest) = text.split_once(' ')?;
+    match kind {
+        "instr" => Some(Item::Instr {
+            pc: word_of(rest)?,
+            bytes: InstrBytes::from_slice(b"\xFF\x3F"),
+        }),
+        "sp" => Some(Item::Stack {
+            pc: 0xF000,
+            at: set_of(rest)?,
+        }),
+        _ => {
+            let (space, set) = rest.split_once(' ')?;
+            access_of(kind, space, set)
+        }
     }
 }
 
-fn no_write(lo: u16, hi: u16) -> Assertion {
-    Assertion::NoWrite {
-        space: Space::Mem,
-        lo,
-        hi,
-    }
-}
-
-/// The set of a run of words.
-fn run(base: u16, stride: u16, count: u32) -> Result<Vs16, Fail> {
-    match Vs16::run(base, stride, count) {
-        Some(set) => Ok(set),
-        None => Err(Fail::from("no run")),
-    }
-}
-
-#[test]
-fn instructions(rt: HostRuntime) {
-    let item = Item::Instr {
-        pc: 0xF010,
-        bytes: InstrBytes::from_slice(b"\xFF\x3F"),
-    };
-    for (lo, hi, broken) in [
-        (0xF010, 0xF010, true),
-        (0x0000, 0xFFFF, true),
-        (0xF00E, 0xF00F, false),
-        // the second byte of the instruction
-        (0xF011, 0xFFFF, false),
-    ] {
-        assert_eq!(rt; breaks(Assertion::NoExec { lo, hi }, &item), broken);
-    }
-    assert!(rt; !breaks(no_write(0x0000, 0xFFFF), &item));
-    assert!(rt; !breaks(stack(0x0000, 0x0000), &item));
-}
-
-#[test]
-fn bytes_of_words(rt: HostRuntime) {
-    for (at, size, lo, hi, broken) in [
-        // either byte of a word
-        (0x0200, 2, 0x0200, 0x0200, true),
-        (0x0200, 2, 0x0201, 0x0201, true),
-        (0x0200, 2, 0x0202, 0xFFFF, false),
-        (0x0200, 2, 0x0000, 0x01FF, false),
-        (0x0200, 1, 0x0201, 0x0201, false),
-        // a word at the end goes round
-        (0xFFFF, 2, 0x0000, 0x0000, true),
-        (0xFFFF, 2, 0xFFFF, 0xFFFF, true),
-        (0xFFFF, 2, 0x0001, 0xFFFE, false),
-        (0xFFFF, 1, 0x0000, 0xFFFE, false),
-        (0x8000, 2, 0x0000, 0xFFFF, true),
-        // no bytes, and a range that ends before it begins
-        (0x0200, 0, 0x0000, 0xFFFF, false),
-        (0x0200, 2, 0x0201, 0x0200, false),
-    ] {
-        assert_eq!(rt;
-            breaks(no_write(lo, hi), &access(true, size, at)),
-            broken,
-            "{at:04X} {lo:04X}"
-        );
-    }
-}
-
-#[test]
-fn readings_and_writings(rt: HostRuntime) {
-    let (lo, hi) = (0x0000, 0xFFFF);
-    let no_read = Assertion::NoRead {
-        space: Space::Mem,
-        lo,
-        hi,
-    };
-    assert!(rt; breaks(no_read, &access(false, 1, 0x0020)));
-    assert!(rt; !breaks(no_read, &access(true, 1, 0x0020)));
-    assert!(rt; breaks(no_write(lo, hi), &access(true, 1, 0x0020)));
-    assert!(rt; !breaks(no_write(lo, hi), &access(false, 1, 0x0020)));
-    let other = Assertion::NoRead {
-        space: Space::Code,
-        lo,
-        hi,
-    };
-    assert!(rt; !breaks(other, &access(false, 1, 0x0020)));
-}
-
-#[test]
-fn stacks_that_go_round(rt: HostRuntime) -> Result<(), Fail> {
-    // FFF0h up to FFFEh, and 0000h up to 0010h
-    let item = stack_at(Set::W(run(0xFFF0, 2, 17)?));
-    for (lo, hi, broken) in [
-        (0x0000, 0xFFFF, false),
-        (0x0000, 0xFFFE, false),
-        (0x0000, 0xFFFD, true),
-        (0x0001, 0xFFFF, true),
-        (0x0010, 0xFFF0, true),
-        // nothing stands within a range that ends before it begins
-        (0xFFF0, 0x0010, true),
-    ] {
-        assert_eq!(rt; breaks(stack(lo, hi), &item), broken, "{lo:04X}-{hi:04X}");
-    }
-    let elsewhere = Assertion::Stack {
-        from: 0xF002,
-        to: 0xFFFF,
-        lo: 0,
-        hi: 0,
-    };
-    assert!(rt; !breaks(elsewhere, &item));
-    Ok(())
-}
-
-#[test]
-fn gaps_of_runs(rt: HostRuntime) -> Result<(), Fail> {
-    let at = Set::W(run(0x0200, 4, 32)?);
-    let item = Item::Access {
-        pc: 0xF000,
-        space: Space::Mem,
-        write: true,
-        size: 2,
-        at,
-    };
-    assert!(rt; breaks(no_write(0x0205, 0x0205), &item));
-    assert!(rt; !breaks(no_write(0x0206, 0x0207), &item));
-    assert!(rt; breaks(no_write(0x0206, 0x0208), &item));
-    assert!(rt; !breaks(no_write(0x027E, 0xFFFF), &item));
-    Ok(())
-}
-
-#[test]
-fn bytes_of_the_8051(rt: HostRuntime) {
-    let at = Set::B(Vs8::any());
-    let item = Item::Access {
-        pc: 0x0100,
-        space: Space::Sfr,
-        write: true,
-        size: 1,
-        at,
-    };
-    for (lo, hi, broken) in [
-        (0x0000, 0x0000, true),
-        (0x00FF, 0xFFFF, true),
-        (0x0100, 0xFFFF, false),
-    ] {
-        let space = Space::Sfr;
-        assert_eq!(rt;
-            breaks(Assertion::NoWrite { space, lo, hi }, &item),
-            broken,
-            "{lo:04X}"
-        );
-        let space = Space::Xram;
-        assert!(rt; !breaks(Assertion::NoWrite { space, lo, hi }, &item));
-    }
-    let item = stack_at(Set::B(Vs8::one(0x07)));
-    assert!(rt; !breaks(stack(0x0007, 0x007F), &item));
-    assert!(rt; breaks(stack(0x0008, 0x00FF), &item));
-    assert!(rt; breaks(stack(0x0100, 0xFFFF), &item));
+/// Whether an item breaks an assertion; none where the row has another form.
+pub fn is_broken(row: &str) -> Option<bool> {
+    let (assertion, item) = row.split_once(" | ")?;
+    Some(breaks(assertion_of(assertion)?, &item_of(item)?))
 }

@@ -3,11 +3,11 @@
 use crate::ends::{is_refusal, is_refused, stands_after};
 use crate::names::set;
 use crate::numbers::number_of;
-use crate::placing::image_with;
 use arrayvec::ArrayVec;
 use call_context::Item;
 use mcs51_decode::Image;
 use mcs51_emu::{Choices, Machine, Stepped};
+use row_parts::CodeRow;
 use std::alloc::{AllocError, Global};
 
 /// A machine behind a reset, but with this PC.
@@ -84,16 +84,14 @@ fn row_holds(
 /// Whether a line holds. One of another form doesn't.
 pub fn holds(alloc: Global, line: &str) -> Result<bool, AllocError> {
     let (before, after) = line.split_once('>').unwrap_or(("", ""));
-    let mut words = before.split(' ');
-    let Some(pc) = number_of(words.next().unwrap_or("")) else {
+    let Some(row) = CodeRow::of(alloc, before)? else {
         return Ok(false);
     };
-    let image = image_with(alloc, pc, words.next().unwrap_or(""))?;
-    let steps = number_of(words.next().unwrap_or(""));
-    let (Some(image), Some(steps)) = (image, steps) else {
+    let mut words = row.rest.split(' ');
+    let Some(steps) = number_of(words.next().unwrap_or("")) else {
         return Ok(false);
     };
-    let mut machine = machine_at(pc);
+    let mut machine = machine_at(row.pc);
     let mut list = Vec::new(alloc);
     for word in words {
         if !take_word(&mut machine, &mut list, word)? {
@@ -101,5 +99,5 @@ pub fn holds(alloc: Global, line: &str) -> Result<bool, AllocError> {
         }
     }
     let mut choices = Choices::new(list);
-    Ok(row_holds(&image, &mut machine, &mut choices, steps, after))
+    Ok(row_holds(&row.image, &mut machine, &mut choices, steps, after))
 }

@@ -3,7 +3,7 @@
 ghost use Rattle.std.specs.Prelude.{◌<◌, IfSome};
 
 use crate::doing::done_by;
-use crate::placing::{choices_of, image_of};
+use crate::placing::{choices_of, image_with};
 use crate::refusing::{is_refusal, is_refused};
 use arrayvec::ArrayVec;
 use call_context::Item;
@@ -160,7 +160,7 @@ pub fn holds(alloc: Global, line: &str) -> Result<bool, AllocError> {
     let Ok(steps) = words.next().unwrap_or("").parse::<u8>() else {
         return Ok(false);
     };
-    let image = image_of(alloc, words.next().unwrap_or(""))?;
+    let image = image_with(alloc, words.next().unwrap_or(""))?;
     let choices = choices_of(alloc, words.next().unwrap_or(""))?;
     let (Some(image), Some(mut choices)) = (image, choices) else {
         return Ok(false);

@@ -13,22 +13,10 @@ mod placing;
 mod refusing;
 
 use crate::holding::holds;
-use std::io::{self, BufRead, BufReader};
+use row_parts::tell;
+use std::io;
 
 fn main(rt: HostRuntime) -> io::Result<()> {
     let alloc = rt.alloc();
-    let mut count = 0u32;
-    for line in BufReader::new(alloc, rt.reader())?.lines(alloc) {
-        let line = line?;
-        if line.as_str().starts_with('#') {
-            continue;
-        }
-        if holds(alloc, line.as_str())? {
-            count = count.wrapping_add(1);
-        } else {
-            println!(rt; "doesn't hold: {line}")?;
-        }
-    }
-    println!(rt; "{count} rows hold")?;
-    Ok(())
+    tell(rt, |line| Ok(Some(holds(alloc, line)?)))
 }

@@ -8,9 +8,9 @@
 #![tactic(auto)]
 
 use report_page::{ViewError, ask_of, front_of, given_instead, view};
+use row_parts::{add_line, tell, words_of};
 use std::alloc::{AllocError, Global};
-use std::io::{self, BufRead, BufReader};
-use std::str;
+use std::{io, str};
 
 /// A text, and the answer to what was asked of it last.
 #[derive(Drop)]
@@ -36,11 +36,8 @@ fn said(alloc: Global, error: ViewError, text: &[u8]) -> Result<String, AllocErr
 
 /// The answer to words about a text.
 fn answer_to(alloc: Global, words: &str, text: &[u8]) -> Result<String, AllocError> {
-    let mut list = Vec::new(alloc);
-    for word in words.split_ascii_whitespace() {
-        list.push(String::from_str(alloc, word)?)?;
-    }
-    let Some(ask) = ask_of(list.as_slice()) else {
+    let words = words_of(alloc, words)?;
+    let Some(ask) = ask_of(words.as_slice()) else {
         return String::from_str(alloc, "other words");
     };
     match view(alloc, ask, text) {
@@ -69,10 +66,7 @@ impl Bench {
         match sign {
             "" | "#" => return Ok(None),
             "new" => self.text.clear(),
-            "+" => {
-                self.text.push_str(rest)?;
-                self.text.push('\n')?;
-            }
+            "+" => add_line(&mut self.text, rest)?,
             "edges" => add_edges(&mut self.text)?,
             "$" => self.answer = answer_to(alloc, rest, self.text.as_bytes())?,
             _ => return Ok(Some(self.holds(alloc, sign, rest)?)),
@@ -99,15 +93,5 @@ fn main(rt: HostRuntime) -> io::Result<()> {
         text: String::new(alloc),
         answer: String::new(alloc),
     };
-    let mut count = 0u32;
-    for line in BufReader::new(alloc, rt.reader())?.lines(alloc) {
-        let line = line?;
-        match bench.take(alloc, line.as_str())? {
-            Some(true) => count = count.wrapping_add(1),
-            Some(false) => println!(rt; "doesn't hold: {line}")?,
-            None => {}
-        }
-    }
-    println!(rt; "{count} rows hold")?;
-    Ok(())
+    tell(rt, |line| bench.take(alloc, line))
 }

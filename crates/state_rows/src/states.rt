@@ -1,0 +1,120 @@
+//! States of either chip, read and written.
+
+use abs_memory::CellList;
+use call_context::Node;
+use no_memory::Memory;
+use node_fields::Outside;
+use std::alloc::{AllocError, Global};
+
+/// What rows ask of a chip's states.
+pub trait KnownState: Drop {
+    /// The state that a text is at a node.
+    fn read(alloc: Global, node: &Node, text: &str) -> Result<Option<Self>, Memory>
+    where
+        Self: Sized;
+
+    /// Adds the text of a state.
+    fn push(&self, out: &mut Vec<u8>) -> Result<(), AllocError>;
+
+    /// The first field of a state that isn't within that of another.
+    fn outside(&self, alloc: Global, held: &Self) -> Result<Option<Outside>, Memory>;
+}
+
+impl KnownState for msp430_state::State<CellList> {
+    fn read(
+        alloc: Global,
+        node: &Node,
+        text: &str,
+    ) -> Result<Option<msp430_state::State<CellList>>, Memory> {
+        msp430_fields::read_state(alloc, 0x0200, 0x09FF, node, text.as_bytes())
+    }
+
+    fn push(&self, out: &mut Vec<u8>) -> Result<(), AllocError> {
+        msp430_fields::push_state(self, out)
+    }
+
+    fn outside(
+        &self,
+        alloc: Global,
+        held: &msp430_state::State<CellList>,
+    ) -> Result<Option<Outside>, Memory> {
+        msp430_fields::first_outside(alloc, self, held)
+    }
+}
+
+impl KnownState for mcs51_state::State<CellList> {
+    fn read(
+        alloc: Global,
+        node: &Node,
+        text: &str,
+    ) -> Result<Option<mcs51_state::State<CellList>>, Memory> {
+        mcs51_fields::read_state(alloc, node, text.as_bytes())
+    }
+
+    fn push(&self, out: &mut Vec<u8>) -> Result<(), AllocError> {
+        mcs51_fields::push_state(self, out)
+    }
+
+    fn outside(
+        &self,
+        alloc: Global,
+        held: &mcs51_state::State<CellList>,
+    ) -> Result<Option<Outside>, Memory> {
+        mcs51_fields::first_outside(alloc, self, held)
+    }
+}
+
+/// The text of a state, with this value in the field of a name.
+pub fn changed(alloc: Global, first: &str, name: &str, value: &str) -> Result<String, AllocError> {
+    let mut text = String::new(alloc);
+    for field in first.split(' ') {
+        let blank = if text.is_empty() { "" } else { " " };
+        match field.split_once('=') {
+            Some((held, _)) if held == name => write!(text, "{blank}{name}={value}")?,
+            _ => write!(text, "{blank}{field}")?,
+        }
+    }
+    Ok(text)
+}
+
+/// Adds the state that a text is at a node, and tells whether it is one.
+pub fn push_state_of<S: KnownState>(
+    alloc: Global,
+    out: &mut Vec<u8>,
+    node: &Node,
+    text: &str,
+) -> Result<bool, Memory> {
+    let Some(state) = S::read(alloc, node, text)? else {
+        return Ok(false);
+    };
+    state.push(out)?;
+    Ok(true)
+}
+
+/// Adds the field of one state that is told as not within that of another, its name and both values, and tells whether one is.
+/// The other state is within itself.
+pub fn push_outside_of<S: KnownState>(
+    alloc: Global,
+    out: &mut Vec<u8>,
+    node: &Node,
+    posted: &str,
+    held: &str,
+) -> Result<bool, Memory> {
+    let (posted, held) = (S::read(alloc, node, posted)?, S::read(alloc, node, held)?);
+    let (Some(posted), Some(held)) = (posted, held) else {
+        return Ok(false);
+    };
+    if held.outside(alloc, &held)?.is_some() {
+        return Ok(false);
+    }
+    let Some(told) = posted.outside(alloc, &held)? else {
+        return Ok(false);
+    };
+    for part in [&told.field, &told.posted, &told.held] {
+        if !out.is_empty() {
+            out.push(b' ')?;
+        }
+        out.extend_from_slice(part.as_slice())?;
+    }
+    Ok(true)
+}

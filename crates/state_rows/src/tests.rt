@@ -1,5 +1,0 @@
-mod fields;
-mod mcs51;
-mod msp430;
-mod nodes;
-mod values;

@@ -1,0 +1,39 @@
+//! Reports that are read, and reports that are refused.
+
+use no_memory::Memory;
+use report_lines::{Line, ReadError, Report, read};
+use std::alloc::{AllocError, Global};
+
+/// Adds how many lines a report has, and its summary.
+fn push_lines(out: &mut String, report: &Report<'_>) -> Result<(), AllocError> {
+    let verdict = if report.closed { "closed" } else { "open" };
+    write!(out, "{verdict} {}, ", report.lines.len())?;
+    match report.summary.extreme {
+        Some(extreme) => write!(out, "{extreme:04X} {}", report.summary.whole),
+        None => write!(out, "none {}", report.summary.whole),
+    }
+}
+
+/// Adds what stands in a report, or what is wrong with its first bad line.
+pub fn push_report(alloc: Global, out: &mut String, text: &str) -> Result<(), Memory> {
+    match read(alloc, text.as_bytes()) {
+        Ok(report) => Ok(push_lines(out, &report)?),
+        Err(ReadError::Refused(refusal)) => {
+            Ok(write!(out, "line {}: {:?}", refusal.line, refusal.why)?)
+        }
+        Err(ReadError::Memory) => Err(Memory),
+    }
+}
+
+/// Adds the least and the greatest number of the set in each S line of a report.
+pub fn push_stack(alloc: Global, out: &mut String, text: &str) -> Result<(), Memory> {
+    let Ok(report) = read(alloc, text.as_bytes()) else {
+        return Ok(());
+    };
+    for line in report.lines.iter() {
+        if let Line::Stack(stack) = line {
+            write!(out, "{:04X} {:04X}", stack.at.least, stack.at.greatest)?;
+        }
+    }
+    Ok(())
+}

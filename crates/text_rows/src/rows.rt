@@ -1,0 +1,91 @@
+//! What lines ask, and whether a row holds.
+
+use crate::images::{push_front, push_image, push_pieces};
+use crate::lists::push_list;
+use crate::numbers::{halves, word_of};
+use crate::reports::{push_report, push_stack};
+use crate::scripts::{push_feeds, push_script};
+use crate::streams::{push_reads, push_writes};
+use crate::texts::push_text;
+use crate::ways::push_ways;
+use image::Image;
+use no_memory::Memory;
+use row_parts::text_of;
+use std::alloc::{AllocError, Global};
+
+/// The last image that was read.
+#[derive(Drop)]
+pub struct Rows {
+    image: Option<Image>,
+}
+
+impl Rows {
+    pub fn new() -> Rows {
+        Rows { image: None }
+    }
+
+    /// Whether a line holds.
+    pub fn take(&mut self, alloc: Global, line: &str) -> Result<Option<bool>, AllocError> {
+        if line.is_empty() {
+            return Ok(None);
+        }
+        let line = text_of(alloc, line)?;
+        let (row, wanted) = line.as_str().split_once(" > ").unwrap_or(("", ""));
+        let (kind, asked) = halves(row);
+        let mut out = String::new(alloc);
+        match self.answer(alloc, &mut out, kind, asked) {
+            Ok(()) => Ok(Some(out.as_str().trim_end_matches(' ') == wanted)),
+            Err(Memory) => Err(AllocError),
+        }
+    }
+
+    /// Adds the answer to what a row asks.
+    fn answer(
+        &mut self,
+        alloc: Global,
+        out: &mut String,
+        kind: &str,
+        asked: &str,
+    ) -> Result<(), Memory> {
+        match kind {
+            "image" => self.image = push_image(alloc, out, asked)?,
+            "front" => self.image = push_front(alloc, out, asked)?,
+            "pieces" => self.image = push_pieces(alloc, out, asked)?,
+            "byte" => self.push_byte(out, asked)?,
+            "meets" => self.push_meeting(out, asked)?,
+            "script" => push_script(alloc, out, asked)?,
+            "feeds" => push_feeds(alloc, out, asked)?,
+            "report" => push_report(alloc, out, asked)?,
+            "stack" => push_stack(alloc, out, asked)?,
+            "reads" => push_reads(alloc, out, asked)?,
+            "writes" => push_writes(alloc, out, asked)?,
+            "made" | "size" | "parts" | "fault" | "counted" | "whole" => {
+                push_text(alloc, out, kind, asked)?
+            }
+            "each" | "ways" | "either" => push_ways(alloc, out, kind, asked)?,
+            _ => push_list(alloc, out, kind, asked)?,
+        }
+        Ok(())
+    }
+
+    /// Adds the byte at an address of the last image.
+    fn push_byte(&self, out: &mut String, at: &str) -> Result<(), AllocError> {
+        let Some(image) = &self.image else {
+            return out.push_str("no image");
+        };
+        match image.byte(word_of(at)) {
+            Some(byte) => write!(out, "{byte:02X}"),
+            None => out.push_str("none"),
+        }
+    }
+
+    /// Adds whether the last image has a byte in a range.
+    fn push_meeting(&self, out: &mut String, range: &str) -> Result<(), AllocError> {
+        let Some(image) = &self.image else {
+            return out.push_str("no image");
+        };
+        let (lo, count) = halves(range);
+        let count = u32::from_str_radix(count, 16).unwrap_or(0);
+        write!(out, "{}", image.meets(word_of(lo), count))
+    }
+}
