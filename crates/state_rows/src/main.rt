@@ -10,8 +10,9 @@
 //! - `state STATE`: a state. `field NAME=VALUE`: the first one with this field.
 //! - `outside NAME NEW HELD`: the field that is told of the first state with this value, which isn't within that with the other.
 //! - `location NODE` and `exit NODE`: nodes, of which stack pointers have four digits and two.
-//! - `word SET`, `plain SET`, `bytes SET`, `even SET`: words in an interrupt's frame and in none, bytes, even words. `ranges`,
-//!   `cells`, `bits`: ranges and cells of RAM from 0200h to 03FFh, and three bits. Places are `PC`, `SR` and `R4`.
+//! - `word SET`, `plain SET`, `bytes SET`: words in an interrupt's frame and in none, and bytes; `even SET` and `odd SET`: words
+//!   that are all even, and that aren't. `ranges`, `cells`, `bits`: ranges and cells of RAM from 0200h to 03FFh, and three bits.
+//!   Places are `PC`, `SR` and `R4`.
 //! - `number DIGITS TEXT` and `short DIGITS TEXT`: a number of so many digits, or of so many at most, in decimal digits.
 //!   `digits NUMBER`: its four digits. `name TEXT` and `named NUMBER`: a name's number, and a number's name.
 //! - `behind FRONT TEXT`, `cut BYTE TEXT`, `has BYTE TEXT`: parts of a text.
