@@ -1,298 +1,17 @@
-//! A chip that counts, one that never comes to rest, one with a chain of nodes, and one with an interrupt.
+//! Books of small chips, by one seat.
 
-ghost use Rattle.std.specs.Prelude.{◌≡◌, IfOk, option_to_list};
-ghost use Rattle.book_rows.specs.Counting.{entering, node_at, posting};
+ghost use Rattle.std.specs.Prelude.{◌≡◌, IfOk};
 
-use call_context::{Calls, Frame, Node, Sequence, Unit};
-use chip_law::{Chip, Work};
+use crate::chip::{HANDLER, Shape, node_at, of_shape};
+use call_context::{Calls, Node, Unit};
+use chip_law::Chip;
 use no_memory::Memory;
 use round_core::{Book, Claimed, Done, Event};
 use std::alloc::Global;
-use std::cell::Cell;
 use std::test::Fail;
 
-/// How often each call was made.
-#[derive(Drop)]
-struct Counter {
-    joins: Cell<u32>,
-    to_marks: Cell<u32>,
-    to_classes: Cell<u32>,
-    tops: Cell<u32>,
-}
-
-fn one_more(count: &Cell<u32>) {
-    count.set(count.get().wrapping_add(1));
-}
-
-fn node_at(pc: u16) -> Node
-    ensures { result ≡ node_at pc }
-{
-    Node::At(pc, Calls::new(), Frame::Base)
-}
-
-/// A work with at most one post.
-fn posting(alloc: Global, post: Option<(Node, u32)>) -> Result<Work<u32>, Memory>
-    ensures { IfOk result (λ work. work ≡ posting (option_to_list post)) }
-{
-    let mut posts = Sequence::new(alloc);
-    if let Some(post) = post {
-        posts.push(post)?;
-    }
-    Ok(Work {
-        items: Sequence::new(alloc),
-        posts,
-        waits: Sequence::new(alloc),
-        opens: Sequence::new(alloc),
-    })
-}
-
-impl Chip for Counter {
-    type Base = ();
-
-    type Abs = u32;
-
-    ghost use Rattle.book_rows.specs.Counting.{counts_by, next_count};
-
-    ghost base = { λ _. tt };
-
-    ghost analysis = { λ _. counts_by next_count };
-
-    fn start(&self, _alloc: Global) -> Result<(Node, u32), Memory> {
-        Ok((node_at(0), 0))
-    }
-
-    fn work(
-        &self,
-        alloc: Global,
-        _unit: &Unit,
-        at: &u32,
-        _exit: Option<&u32>,
-    ) -> Result<Work<u32>, Memory> {
-        posting(alloc, Some((node_at(0), at.saturating_add(1))))
-    }
-
-    fn copy(&self, _alloc: Global, a: &u32) -> Result<u32, Memory> {
-        Ok(*a)
-    }
-
-    fn join(&self, _alloc: Global, held: &u32, new: &u32) -> Result<u32, Memory> {
-        one_more(&self.joins);
-        Ok((*held).max(*new))
-    }
-
-    fn widen(&self, _alloc: Global, held: &u32, new: &u32, coarse: bool) -> Result<u32, Memory> {
-        if coarse {
-            one_more(&self.to_classes);
-        } else {
-            one_more(&self.to_marks);
-        }
-        Ok((*held).max(*new))
-    }
-
-    fn top(&self, _alloc: Global, _node: &Node) -> Result<u32, Memory> {
-        one_more(&self.tops);
-        Ok(u32::MAX)
-    }
-
-    fn within(&self, new: &u32, held: &u32) -> bool {
-        *new <= *held
-    }
-}
-
-/// Counts as well, and never takes one state to be within another.
-#[derive(Drop)]
-struct Restless;
-
-impl Chip for Restless {
-    type Base = ();
-
-    type Abs = u32;
-
-    ghost use Rattle.book_rows.specs.Counting.{next_count, without_order};
-
-    ghost base = { λ _. tt };
-
-    ghost analysis = { λ _. without_order next_count };
-
-    fn start(&self, _alloc: Global) -> Result<(Node, u32), Memory> {
-        Ok((node_at(0), 0))
-    }
-
-    fn work(
-        &self,
-        alloc: Global,
-        _unit: &Unit,
-        at: &u32,
-        _exit: Option<&u32>,
-    ) -> Result<Work<u32>, Memory> {
-        posting(alloc, Some((node_at(0), at.saturating_add(1))))
-    }
-
-    fn copy(&self, _alloc: Global, a: &u32) -> Result<u32, Memory> {
-        Ok(*a)
-    }
-
-    fn join(&self, _alloc: Global, held: &u32, new: &u32) -> Result<u32, Memory> {
-        Ok((*held).max(*new))
-    }
-
-    fn widen(&self, _alloc: Global, held: &u32, new: &u32, _coarse: bool) -> Result<u32, Memory> {
-        Ok((*held).max(*new))
-    }
-
-    fn top(&self, _alloc: Global, _node: &Node) -> Result<u32, Memory> {
-        Ok(u32::MAX)
-    }
-
-    fn within(&self, _new: &u32, _held: &u32) -> bool {
-        false
-    }
-}
-
-/// Nodes from 0 to the last, each of which leads to the next.
-#[derive(Drop)]
-struct Chain {
-    last: u16,
-}
-
-impl Chip for Chain {
-    type Base = u16;
-
-    type Abs = u32;
-
-    ghost use Rattle.book_rows.specs.Counting.{counts_by, next_node};
-
-    ghost base = { λ chain. chain.last };
-
-    ghost analysis = { λ last. counts_by (next_node last) };
-
-    fn start(&self, _alloc: Global) -> Result<(Node, u32), Memory> {
-        Ok((node_at(0), 0))
-    }
-
-    fn work(
-        &self,
-        alloc: Global,
-        unit: &Unit,
-        _at: &u32,
-        _exit: Option<&u32>,
-    ) -> Result<Work<u32>, Memory> {
-        match unit {
-            Unit::One(Node::At(pc, ..)) => {
-                if *pc < self.last {
-                    posting(alloc, Some((node_at(*pc + 1), 0)))
-                } else {
-                    posting(alloc, None)
-                }
-            }
-            _ => posting(alloc, None),
-        }
-    }
-
-    fn copy(&self, _alloc: Global, a: &u32) -> Result<u32, Memory> {
-        Ok(*a)
-    }
-
-    fn join(&self, _alloc: Global, held: &u32, new: &u32) -> Result<u32, Memory> {
-        Ok((*held).max(*new))
-    }
-
-    fn widen(&self, _alloc: Global, held: &u32, new: &u32, _coarse: bool) -> Result<u32, Memory> {
-        Ok((*held).max(*new))
-    }
-
-    fn top(&self, _alloc: Global, _node: &Node) -> Result<u32, Memory> {
-        Ok(u32::MAX)
-    }
-
-    fn within(&self, new: &u32, held: &u32) -> bool {
-        *new <= *held
-    }
-}
-
-/// The frame of the handler.
-const HANDLER: Frame = Frame::Irq {
-    vector: 1,
-    sp: Some(640),
-    level: 0,
-};
-
-/// The work that posts twice to location 4, enters the handler at 8, and waits for its frame.
-fn entering(alloc: Global) -> Result<Work<u32>, Memory>
-    ensures { IfOk result (λ work. work ≡ entering) }
-{
-    let mut work = posting(alloc, Some((node_at(4), 1)))?;
-    work.posts.push((node_at(4), 2))?;
-    work.posts.push((Node::At(8, Calls::new(), HANDLER), 0))?;
-    work.waits.push(HANDLER)?;
-    Ok(work)
-}
-
-/// Location 0 enters a handler, which leaves its frame, and the return goes on at location 4.
-#[derive(Drop)]
-struct Interrupted;
-
-impl Chip for Interrupted {
-    type Base = ();
-
-    type Abs = u32;
-
-    ghost use Rattle.book_rows.specs.Counting.{counts_by, interrupted};
-
-    ghost base = { λ _. tt };
-
-    ghost analysis = { λ _. counts_by interrupted };
-
-    fn start(&self, _alloc: Global) -> Result<(Node, u32), Memory> {
-        Ok((node_at(0), 0))
-    }
-
-    fn work(
-        &self,
-        alloc: Global,
-        unit: &Unit,
-        _at: &u32,
-        _exit: Option<&u32>,
-    ) -> Result<Work<u32>, Memory> {
-        match unit {
-            Unit::One(Node::At(pc, _, Frame::Base)) => {
-                if *pc == 0 {
-                    entering(alloc)
-                } else {
-                    posting(alloc, None)
-                }
-            }
-            Unit::One(Node::At(_, _, Frame::Irq { .. })) => {
-                posting(alloc, Some((Node::Exit(8, HANDLER), 0)))
-            }
-            Unit::One(Node::Exit(..)) => posting(alloc, None),
-            Unit::Back(..) => posting(alloc, Some((node_at(4), 3))),
-        }
-    }
-
-    fn copy(&self, _alloc: Global, a: &u32) -> Result<u32, Memory> {
-        Ok(*a)
-    }
-
-    fn join(&self, _alloc: Global, held: &u32, new: &u32) -> Result<u32, Memory> {
-        Ok((*held).max(*new))
-    }
-
-    fn widen(&self, _alloc: Global, held: &u32, new: &u32, _coarse: bool) -> Result<u32, Memory> {
-        Ok((*held).max(*new))
-    }
-
-    fn top(&self, _alloc: Global, _node: &Node) -> Result<u32, Memory> {
-        Ok(u32::MAX)
-    }
-
-    fn within(&self, new: &u32, held: &u32) -> bool {
-        *new <= *held
-    }
-}
-
 /// Claims, works and posts until the book is finished, or for a number of turns.
-fn run_for<C: Chip>(alloc: Global, chip: &C, most: u64) -> Result<Book<C>, Memory>
+pub(crate) fn run_for<C: Chip>(alloc: Global, chip: &C, most: u64) -> Result<Book<C>, Memory>
     ensures { IfOk result (λ book. C.base chip.now ≡ book.base) }
 {
     let mut book = Book::open(alloc, chip)?;
@@ -310,53 +29,102 @@ fn run_for<C: Chip>(alloc: Global, chip: &C, most: u64) -> Result<Book<C>, Memor
     Ok(book)
 }
 
+/// Whether a book is finished, and how many nodes, works and events it has.
+pub(crate) type Sizes = (bool, usize, usize, usize);
+
+pub(crate) fn sizes<C: Chip>(book: &Book<C>) -> Sizes {
+    (
+        book.finished(),
+        book.nodes().len(),
+        book.works().len(),
+        book.journal().len(),
+    )
+}
+
+/// The sizes of a book behind a number of turns, and of what it is taken apart into: its nodes, works and events.
+fn sizes_behind<C: Chip>(
+    alloc: Global,
+    chip: &C,
+    most: u64,
+) -> Result<(Sizes, (usize, usize, usize)), Memory> {
+    let book = run_for(alloc, chip, most)?;
+    let sizes = sizes(&book);
+    let (nodes, works, journal) = book.into_parts();
+    Ok((sizes, (nodes.len(), works.len(), journal.len())))
+}
+
+/// The same, with what is live in it.
+fn live_sizes_behind<C: Chip>(
+    alloc: Global,
+    chip: &C,
+    most: u64,
+) -> Result<(Sizes, (usize, usize, usize)), Memory> {
+    let book = run_for(alloc, chip, most)?;
+    let sizes = sizes(&book);
+    let (_, nodes, works, journal) = book.into_live();
+    Ok((sizes, (nodes.len(), works.len(), journal.len())))
+}
+
+/// Whether a book has these nodes behind a number of turns.
+fn has_nodes_behind<C: Chip<Abs = u32>>(
+    alloc: Global,
+    chip: &C,
+    most: u64,
+    nodes: &[(Node, u32)],
+) -> Result<bool, Memory> {
+    let book = run_for(alloc, chip, most)?;
+    Ok(book.nodes() == nodes)
+}
+
 #[test]
 fn counts_to_the_top(rt: HostRuntime) -> Result<(), Fail> {
-    let chip = Counter {
-        joins: Cell::new(0),
-        to_marks: Cell::new(0),
-        to_classes: Cell::new(0),
-        tops: Cell::new(0),
-    };
-    let book = run_for(rt.alloc(), &chip, 1_000)?;
-    assert!(rt; book.finished());
-    assert_eq!(rt; book.journal().len(), 128);
-    assert_eq!(rt; chip.joins.get(), 14);
-    assert_eq!(rt; chip.to_marks.get(), 32);
-    assert_eq!(rt; chip.to_classes.get(), 16);
-    assert_eq!(rt; chip.tops.get(), 1);
-    assert_eq!(rt; book.nodes(), [(node_at(0), u32::MAX)].as_slice());
-    assert_eq!(rt; book.works().len(), 1);
+    let chip = of_shape(Shape::Counting);
+    let (sizes, _) = sizes_behind(rt.alloc(), &chip, 1_000)?;
+    assert_eq!(rt;
+        (sizes, chip.counts()),
+        ((true, 1, 1, 128), (14, 32, 16, 1))
+    );
+    assert!(rt; has_nodes_behind(rt.alloc(), &chip, 1_000, &[(node_at(0), u32::MAX)])?);
     Ok(())
 }
 
 /// The bound of 64 rises is false for a chip of which nothing is known: here the only node rises at each post.
 #[test]
 fn rises_without_end(rt: HostRuntime) -> Result<(), Fail> {
-    let book = run_for(rt.alloc(), &Restless, 200)?;
-    assert!(rt; !book.finished());
-    assert_eq!(rt; book.nodes().len(), 1);
-    assert_eq!(rt; book.journal().len(), 400);
+    let (sizes, _) = sizes_behind(rt.alloc(), &of_shape(Shape::Restless), 200)?;
+    assert_eq!(rt; sizes, (false, 1, 1, 400));
     Ok(())
 }
 
 #[test]
 fn a_long_chain_ends(rt: HostRuntime) -> Result<(), Fail> {
-    let book = run_for(rt.alloc(), &Chain { last: 19_999 }, 100_000)?;
-    assert_eq!(rt; book.nodes().len(), 20_000);
-    let (nodes, works, journal) = book.into_parts();
-    assert_eq!(rt; nodes.len(), 20_000);
-    assert_eq!(rt; works.len(), 20_000);
-    assert_eq!(rt; journal.len(), 40_000);
+    let chip = of_shape(Shape::Chain(19_999));
+    let found = sizes_behind(rt.alloc(), &chip, 100_000)?;
+    let wanted = ((true, 20_000, 20_000, 40_000), (20_000, 20_000, 40_000));
+    assert_eq!(rt; found, wanted);
     Ok(())
 }
 
-/// Claims a unit and gives it back, and answers whether there was one.
-fn claim_in_vain<C: Chip>(book: &mut Book<C>, chip: &C, seat: u32) -> Result<bool, Memory>
+/// What a claim came to: whether there was a unit, whether the book is finished then, and the least number of units that can't be
+/// claimed then.
+type Told = (bool, bool, u32);
+
+fn told_of<C: Chip>(book: &Book<C>, found: bool) -> Told {
+    for least in 0..9 {
+        if !book.can_claim(least) {
+            return (found, book.finished(), least);
+        }
+    }
+    (found, book.finished(), 9)
+}
+
+/// Claims a unit, and keeps it or gives it back. False says that there was none.
+fn claim_one<C: Chip>(book: &mut Book<C>, chip: &C, seat: u32, keeps: bool) -> Result<bool, Memory>
     requires { C.base chip.now ≡ book.old.base }
     ensures { book.new.base ≡ book.old.base }
 {
     match book.claim(chip, seat)? {
+        Claimed::Ticket(_) if keeps => Ok(true),
         Claimed::Ticket(ticket) => {
             book.give_back(ticket);
             Ok(true)
@@ -365,98 +133,127 @@ fn claim_in_vain<C: Chip>(book: &mut Book<C>, chip: &C, seat: u32) -> Result<boo
     }
 }
 
+/// Goes on for a number of turns, and then lets seats claim, of which some keep their unit. It answers what was told in front of the
+/// claims and behind each, and whether the journal is this one.
+fn claim_each<C: Chip>(
+    alloc: Global,
+    chip: &C,
+    turns: u64,
+    seats: &[(u32, bool)],
+    events: &[Event],
+) -> Result<(Vec<Told>, bool), Memory> {
+    let mut book = run_for(alloc, chip, turns)?;
+    let mut told = Vec::new(alloc);
+    told.push(told_of(&book, false))?;
+    for (seat, keeps) in seats {
+        let found = claim_one(&mut book, chip, *seat, *keeps)?;
+        told.push(told_of(&book, found))?;
+    }
+    Ok((told, book.journal() == events))
+}
+
+fn unit_at(pc: u16) -> Unit {
+    Unit::One(node_at(pc))
+}
+
+/// One unit goes out to two seats in turn.
+fn events_of_one_unit() -> [Event; 4] {
+    [
+        Event::Claim {
+            seat: 1,
+            unit: unit_at(0),
+        },
+        Event::GiveBack {
+            seat: 1,
+            unit: unit_at(0),
+        },
+        Event::Claim {
+            seat: 2,
+            unit: unit_at(0),
+        },
+        Event::GiveBack {
+            seat: 2,
+            unit: unit_at(0),
+        },
+    ]
+}
+
 #[test]
 fn a_unit_that_is_given_back_comes_again(rt: HostRuntime) -> Result<(), Fail> {
-    let chip = Chain { last: 1 };
-    let mut book = Book::open(rt.alloc(), &chip)?;
-    assert!(rt; !book.finished());
-    assert!(rt; claim_in_vain(&mut book, &chip, 1)?);
-    assert!(rt; claim_in_vain(&mut book, &chip, 2)?);
-    let unit = Unit::One(node_at(0));
-    let events = [
-        Event::Claim { seat: 1, unit },
-        Event::GiveBack { seat: 1, unit },
-        Event::Claim { seat: 2, unit },
-        Event::GiveBack { seat: 2, unit },
-    ];
-    assert_eq!(rt; book.journal(), events.as_slice());
+    let chip = of_shape(Shape::Chain(1));
+    let seats = [(1, false), (2, false)];
+    let (told, same) = claim_each(rt.alloc(), &chip, 0, &seats, &events_of_one_unit())?;
+    let wanted = [(false, false, 2), (true, false, 2), (true, false, 2)];
+    assert_eq!(rt; told.as_slice(), wanted.as_slice());
+    assert!(rt; same);
     Ok(())
 }
 
-/// Claims a unit, and answers whether there was one.
-fn claim_one<C: Chip>(book: &mut Book<C>, chip: &C, seat: u32) -> Result<bool, Memory>
-    requires { C.base chip.now ≡ book.old.base }
-    ensures { book.new.base ≡ book.old.base }
-{
-    match book.claim(chip, seat)? {
-        Claimed::Ticket(_) => Ok(true),
-        Claimed::Idle | Claimed::Finished => Ok(false),
-    }
+/// Behind the first turn the location and the handler go out.
+fn events_of_two_seats() -> [Event; 4] {
+    [
+        Event::Claim {
+            seat: 0,
+            unit: unit_at(0),
+        },
+        Event::Post {
+            seat: 0,
+            unit: unit_at(0),
+        },
+        Event::Claim {
+            seat: 1,
+            unit: unit_at(4),
+        },
+        Event::Claim {
+            seat: 2,
+            unit: Unit::One(Node::At(8, Calls::new(), HANDLER)),
+        },
+    ]
 }
 
 #[test]
 fn two_seats_claim_at_once(rt: HostRuntime) -> Result<(), Fail> {
-    let mut book = run_for(rt.alloc(), &Interrupted, 1)?;
-    assert!(rt; claim_one(&mut book, &Interrupted, 1)?);
-    assert!(rt; claim_one(&mut book, &Interrupted, 2)?);
-    assert!(rt; !claim_one(&mut book, &Interrupted, 3)?);
-    let first = Unit::One(node_at(0));
-    let handler = Unit::One(Node::At(8, Calls::new(), HANDLER));
-    let events = [
-        Event::Claim {
-            seat: 0,
-            unit: first,
-        },
-        Event::Post {
-            seat: 0,
-            unit: first,
-        },
-        Event::Claim {
-            seat: 1,
-            unit: Unit::One(node_at(4)),
-        },
-        Event::Claim {
-            seat: 2,
-            unit: handler,
-        },
+    let chip = of_shape(Shape::Interrupted);
+    let seats = [(1, true), (2, true), (3, true)];
+    let (told, same) = claim_each(rt.alloc(), &chip, 1, &seats, &events_of_two_seats())?;
+    let wanted = [
+        (false, false, 3),
+        (true, false, 2),
+        (true, false, 1),
+        (false, false, 1),
     ];
-    assert_eq!(rt; book.journal(), events.as_slice());
+    assert_eq!(rt; told.as_slice(), wanted.as_slice());
+    assert!(rt; same);
     Ok(())
 }
 
-/// Behind the first turn two units can be claimed. The first goes out and comes back, and then both go out.
+/// The first of two units goes out and comes back, and then both go out.
 #[test]
 fn units_to_claim_are_counted(rt: HostRuntime) -> Result<(), Fail> {
-    let mut book = run_for(rt.alloc(), &Interrupted, 1)?;
-    assert!(rt; book.can_claim(2));
-    assert!(rt; !book.can_claim(3));
-    assert!(rt; claim_in_vain(&mut book, &Interrupted, 1)?);
-    assert!(rt; book.can_claim(2));
-    assert!(rt; !book.can_claim(3));
-    assert!(rt; claim_one(&mut book, &Interrupted, 1)?);
-    assert!(rt; book.can_claim(1));
-    assert!(rt; !book.can_claim(2));
-    assert!(rt; claim_one(&mut book, &Interrupted, 2)?);
-    assert!(rt; book.can_claim(0));
-    assert!(rt; !book.can_claim(1));
+    let chip = of_shape(Shape::Interrupted);
+    let seats = [(1, false), (1, true), (2, true)];
+    let (told, _) = claim_each(rt.alloc(), &chip, 1, &seats, &[])?;
+    let wanted = [
+        (false, false, 3),
+        (true, false, 3),
+        (true, false, 2),
+        (true, false, 1),
+    ];
+    assert_eq!(rt; told.as_slice(), wanted.as_slice());
     Ok(())
 }
 
 #[test]
 fn a_handler_is_entered_and_left(rt: HostRuntime) -> Result<(), Fail> {
-    let book = run_for(rt.alloc(), &Interrupted, 100)?;
-    assert!(rt; book.finished());
+    let chip = of_shape(Shape::Interrupted);
     let nodes = [
         (node_at(0), 0),
         (node_at(4), 3),
         (Node::At(8, Calls::new(), HANDLER), 0),
         (Node::Exit(8, HANDLER), 0),
     ];
-    assert_eq!(rt; book.nodes(), nodes.as_slice());
-    assert_eq!(rt; book.journal().len(), 10);
-    let (_, nodes, works, journal) = book.into_live();
-    assert_eq!(rt; nodes.len(), 4);
-    assert_eq!(rt; works.len(), 4);
-    assert_eq!(rt; journal.len(), 10);
+    assert!(rt; has_nodes_behind(rt.alloc(), &chip, 100, &nodes)?);
+    let found = live_sizes_behind(rt.alloc(), &chip, 100)?;
+    assert_eq!(rt; found, ((true, 4, 4, 10), (4, 4, 10)));
     Ok(())
 }

@@ -1,79 +1,17 @@
-//! A chip with one location, and two seats at its book.
+//! Two seats at a book of one location.
 
-ghost use Rattle.std.specs.Prelude.{◌≡◌, false, Some, []};
-ghost use Rattle.call_context.specs.declared.node.Frame.TheVariants.{Base};
-ghost use Rattle.call_context.specs.declared.node.Node.TheVariants.{At};
+ghost use Rattle.std.specs.Prelude.{◌≡◌, false, Some};
 ghost use Rattle.fact_table.specs.Named.{table_of};
 
-use call_context::{Calls, Frame, Node, Sequence, Unit};
-use chip_law::{Chip, Work};
+use crate::books::{Sizes, sizes};
+use crate::chip::{Shape, of_shape};
+use chip_law::Chip;
 use fact_table::{FactTable, Seat};
 use no_memory::Memory;
 use round_core::{Book, Claimed, Done};
 use std::alloc::Global;
 use std::sync::Wait;
 use std::test::Fail;
-
-fn only_node() -> Node
-    ensures { result ≡ At 0 [] Base }
-{
-    Node::At(0, Calls::new(), Frame::Base)
-}
-
-/// Its only location leads nowhere.
-#[derive(Drop)]
-struct Still;
-
-impl Chip for Still {
-    type Base = ();
-
-    type Abs = u32;
-
-    ghost use Rattle.fact_table.specs.Still.{still};
-
-    ghost base = { λ _. tt };
-
-    ghost analysis = { λ _. still };
-
-    fn start(&self, _alloc: Global) -> Result<(Node, u32), Memory> {
-        Ok((only_node(), 0))
-    }
-
-    fn work(
-        &self,
-        alloc: Global,
-        _unit: &Unit,
-        _at: &u32,
-        _exit: Option<&u32>,
-    ) -> Result<Work<u32>, Memory> {
-        Ok(Work {
-            items: Sequence::new(alloc),
-            posts: Sequence::new(alloc),
-            waits: Sequence::new(alloc),
-            opens: Sequence::new(alloc),
-        })
-    }
-
-    fn copy(&self, _alloc: Global, a: &u32) -> Result<u32, Memory> {
-        Ok(*a)
-    }
-
-    fn join(&self, _alloc: Global, held: &u32, new: &u32) -> Result<u32, Memory> {
-        Ok((*held).max(*new))
-    }
-
-    fn widen(&self, _alloc: Global, held: &u32, new: &u32, _coarse: bool) -> Result<u32, Memory> {
-        Ok((*held).max(*new))
-    }
-
-    fn top(&self, _alloc: Global, _node: &Node) -> Result<u32, Memory> {
-        Ok(u32::MAX)
-    }
-
-    fn within(&self, new: &u32, held: &u32) -> bool {
-        *new <= *held
-    }
-}
 
 /// Claims a unit, and gives it back or posts its work. False says that there was none.
 fn take_turn<R: Wait, C: Chip>(
@@ -105,23 +43,27 @@ fn take_turn<R: Wait, C: Chip>(
     }
 }
 
-/// One seat gives the only unit back, and the other posts its work.
-fn shared<R: Wait>(rt: &R, alloc: Global) -> Result<Book<Still>, Memory> {
-    let chip = Still;
-    let book = Book::open(alloc, &chip)?;
+/// One seat gives the only unit back, and the other posts its work. It answers the book's sizes, and whether each turn had a unit.
+fn shared<R: Wait, C: Chip>(
+    rt: &R,
+    alloc: Global,
+    chip: &C,
+) -> Result<(Sizes, [Option<bool>; 3]), Memory> {
+    let book = Book::open(alloc, chip)?;
     let (table, mut first) = FactTable::new(alloc, book, 2)?;
     let mut second = table.split(&mut first);
-    take_turn(rt, alloc, &chip, &table, &mut second, true)?;
-    take_turn(rt, alloc, &chip, &table, &mut first, false)?;
-    take_turn(rt, alloc, &chip, &table, &mut second, false)?;
+    let in_vain = take_turn(rt, alloc, chip, &table, &mut second, true);
+    let worked = take_turn(rt, alloc, chip, &table, &mut first, false);
+    let none = take_turn(rt, alloc, chip, &table, &mut second, false);
     table.join(&mut second, first);
-    Ok(table.close(second))
+    let sizes = sizes(&table.close(second));
+    Ok((sizes, [in_vain.ok(), worked.ok(), none.ok()]))
 }
 
 #[test]
 fn two_seats_share_a_book(rt: HostRuntime) -> Result<(), Fail> {
-    let book = shared(&rt, rt.alloc())?;
-    assert_eq!(rt; book.journal().len(), 4);
-    assert!(rt; book.finished());
+    let found = shared(&rt, rt.alloc(), &of_shape(Shape::Chain(0)))?;
+    let turns = [Some(true), Some(true), Some(false)];
+    assert_eq!(rt; found, ((true, 1, 1, 4), turns));
     Ok(())
 }

@@ -4,6 +4,8 @@
 #[cfg(test)]
 mod books;
 #[cfg(test)]
+mod chip;
+#[cfg(test)]
 mod crews;
 #[cfg(test)]
 mod exchanges;

@@ -3,6 +3,10 @@
 use report_text::{greatest_number, least_number};
 use value_set::{Vs8, Vs16};
 
+fn least_of(base: u16, stride: u16, count: u32) -> Option<Option<u16>> {
+    Some(least_number(&Vs16::run(base, stride, count)?))
+}
+
 #[test]
 fn rows_of_the_least_stack_pointer(rt: HostRuntime) {
     for (base, stride, count, least) in [
@@ -16,12 +20,12 @@ fn rows_of_the_least_stack_pointer(rt: HostRuntime) {
         (0x0000, 2, 0x8000, None),
         (0x0000, 1, 0x10000, None),
     ] {
-        if let Some(set) = Vs16::run(base, stride, count) {
-            assert_eq!(rt; least_number(&set), least);
-        } else {
-            assert!(rt; false);
-        }
+        assert_eq!(rt; least_of(base, stride, count), Some(least));
     }
+}
+
+fn greatest_of(base: u8, stride: u8, count: u32) -> Option<Option<u8>> {
+    Some(greatest_number(&Vs8::run(base, stride, count)?))
 }
 
 #[test]
@@ -36,10 +40,6 @@ fn rows_of_the_greatest_stack_pointer(rt: HostRuntime) {
         // all bytes
         (0x00, 1, 0x100, None),
     ] {
-        if let Some(set) = Vs8::run(base, stride, count) {
-            assert_eq!(rt; greatest_number(&set), greatest);
-        } else {
-            assert!(rt; false);
-        }
+        assert_eq!(rt; greatest_of(base, stride, count), Some(greatest));
     }
 }

@@ -104,21 +104,29 @@ fn write_both<R: Threads + Wait + Sync>(
     Ok(table.close(first))
 }
 
+/// Whether a seat wrote the numbers below `count` down, in this order.
+fn are_in_order(lines: &[Line], seat: u32, count: u32) -> bool {
+    let mut next = 0u32;
+    for line in lines {
+        if line.seat == seat {
+            if line.number != next {
+                return false;
+            }
+            next = next.wrapping_add(1);
+        }
+    }
+    next == count
+}
+
 #[test]
 fn two_threads_take_turns(rt: HostRuntime) -> Result<(), Fail> {
     let numbers = write_both(&rt, rt.alloc(), 20_000)?;
-    assert_eq!(rt; numbers.name, 7);
-    assert_eq!(rt; numbers.lines.len(), 40_000);
-    for seat in 0..2 {
-        let mut next = 0;
-        for line in &numbers.lines {
-            if line.seat == seat {
-                assert_eq!(rt; line.number, next);
-                next = next.wrapping_add(1);
-            }
-        }
-        assert_eq!(rt; next, 20_000);
-    }
+    let lines = numbers.lines.as_slice();
+    let ordered = [0, 1].map(|seat| are_in_order(lines, seat, 20_000));
+    assert_eq!(rt;
+        (numbers.name, lines.len(), ordered),
+        (7, 40_000, [true, true])
+    );
     Ok(())
 }
 

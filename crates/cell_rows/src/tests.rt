@@ -1,6 +1,0 @@
-mod memory;
-mod pages;
-mod relations;
-mod resuming;
-mod walks;
-mod words;
