@@ -1,8 +1,8 @@
 -- Small chips for rows, whose states are numbers. One counts, one never comes to rest, and the others have a chain of
 -- locations, a tree, an interrupt, and locations that race.
 use Rattle.std.specs.Prelude.{ℕ, ◌+◌, ◌*◌, ◌≤◌, ◌==◌, Bool, true, false, Some, nat_le, nat_lt, if◌then◌else◌, List, [], ◌∷◌, max, min}
-use Rattle.book_rows.specs.declared.chip.Shape.{Shape}
-use Rattle.book_rows.specs.declared.chip.Shape.TheVariants.{Counting, Restless, Chain, Tree, Interrupted, Racing}
+use Rattle.book_rows.specs.declared.shape.Shape.{Shape}
+use Rattle.book_rows.specs.declared.shape.Shape.TheVariants.{Counting, Restless, Chain, Tree, Interrupted, Racing}
 use Rattle.call_context.specs.declared.node.Frame.{Frame}
 use Rattle.call_context.specs.declared.node.Frame.TheVariants.{Base, Irq}
 use Rattle.call_context.specs.declared.node.Node.{Node}

@@ -2,7 +2,8 @@
 
 ghost use Rattle.std.specs.Prelude.{◌≡◌, IfOk};
 
-use crate::chip::{HANDLER, Shape, node_at, of_shape};
+use crate::chip::{HANDLER, node_at, of_shape};
+use crate::shape::Shape;
 use call_context::{Calls, Node, Unit};
 use chip_law::Chip;
 use no_memory::Memory;

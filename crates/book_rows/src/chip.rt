@@ -3,29 +3,13 @@
 ghost use Rattle.std.specs.Prelude.{◌≡◌, ◌++◌, IfOk, option_to_list};
 ghost use Rattle.book_rows.specs.Chips as chips;
 
+use crate::shape::Shape;
 use call_context::{Calls, Frame, Node, Sequence, Unit};
 use chip_law::{Chip, Work};
 use no_memory::Memory;
 use std::alloc::Global;
 use std::sync::atomic::AtomicU64;
 use std::sync::atomic::Ordering::SeqCst;
-
-/// What leads where.
-#[derive(Clone, Copy)]
-pub enum Shape {
-    /// The only location counts: it posts its number plus one to itself.
-    Counting,
-    /// The same, and no number is within another: whatever is posted raises its node.
-    Restless,
-    /// Locations from 0 to the last, each of which leads to the next.
-    Chain(u16),
-    /// Locations from 0 to an even last one, each of which leads to two more.
-    Tree(u16),
-    /// Location 0 enters a handler, which leaves its frame, and the return goes on at location 4.
-    Interrupted,
-    /// Locations 1 and 2 post to 3, the first one a greater number, and 3 posts a small number back to both.
-    Racing,
-}
 
 /// A chip of a shape, which counts the calls of it. Its first works run out of memory.
 #[derive(Drop)]

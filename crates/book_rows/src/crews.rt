@@ -3,7 +3,8 @@
 ghost use Rattle.std.specs.Prelude.{◌<◌, ◌≤◌};
 
 use crate::books::{Sizes, sizes};
-use crate::chip::{Shape, failing, of_shape};
+use crate::chip::{failing, of_shape};
+use crate::shape::Shape;
 use chip_law::Chip;
 use no_memory::Memory;
 use round_core::Event;

@@ -7,7 +7,8 @@ ghost use Rattle.fact_table.specs.Named.{table_of};
 ghost use Rattle.fact_table.specs.Seats.{AreOutTo};
 
 use crate::books::run_for;
-use crate::chip::{Shape, node_at, of_shape};
+use crate::chip::{node_at, of_shape};
+use crate::shape::Shape;
 use call_context::Node;
 use chip_law::Chip;
 use fact_table::{Exchanged, FactTable, Last, Seat};

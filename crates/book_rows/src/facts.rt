@@ -4,7 +4,8 @@ ghost use Rattle.std.specs.Prelude.{◌≡◌, false, Some};
 ghost use Rattle.fact_table.specs.Named.{table_of};
 
 use crate::books::{Sizes, sizes};
-use crate::chip::{Shape, of_shape};
+use crate::chip::of_shape;
+use crate::shape::Shape;
 use chip_law::Chip;
 use fact_table::{FactTable, Seat};
 use no_memory::Memory;

@@ -11,6 +11,7 @@ mod crews;
 mod exchanges;
 #[cfg(test)]
 mod facts;
+mod shape;
 #[cfg(test)]
 mod stack_pointers;
 #[cfg(test)]

@@ -1,4 +1,3 @@
 pub mod Exchange
 pub mod Named
 pub mod Seats
-pub mod Still
