@@ -13,7 +13,7 @@ use Rattle.call_context.specs.declared.shown.Item.TheVariants as sets
 use Rattle.call_context.specs.declared.shown.Set.{Set}
 use Rattle.call_context.specs.declared.shown.Set.TheVariants.{B, W}
 use Rattle.chip_law.specs.Machine.{Machine}
-use Rattle.chip_law.specs.declared.chip.Work.{Work}
+use Rattle.chip_analysis.specs.declared.chip.Work.{Work}
 use Rattle.chip_numbers.specs.Single.{Single}
 use Rattle.chip_numbers.specs.Single.Single.{Instr, Edge, Access, Stack}
 use Rattle.closing_law.specs.Covered.{AreCovering}

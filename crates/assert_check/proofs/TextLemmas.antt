@@ -4,7 +4,7 @@ use Rattle.std.proofs.Common.{Result, Ok, Err, refl, ap, sym, ◌∙◌, inl, in
 use Rattle.std.specs.Prelude.{◌==◌, option_map}
 use Rattle.std.proofs.lemmas.Bool.{cases_Bool}
 use Rattle.chip_numbers.specs.declared.space.Space.{Space}
-use Rattle.ihex_read.specs.Lines.{last_line, lines_behind, lines_of, without_return}
+use Rattle.text_lines.specs.Lines.{last_line, lines_behind, lines_of, without_return}
 use Rattle.text_fields.specs.Fields.{cut_at}
 use Rattle.assert_check.specs.declared.assertion.Assertion.{Assertion}
 use Rattle.assert_check.specs.declared.lines.AssertError.{AssertError}

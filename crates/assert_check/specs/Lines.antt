@@ -6,8 +6,8 @@ use Rattle.std.specs.Option.{option_map_or}
 use Rattle.std.specs.Cmp.Lexicographic.{pointwise}
 use Rattle.item_lines.specs.Line.{space_text}
 use Rattle.chip_numbers.specs.declared.space.Space.{Space}
-use Rattle.ihex_read.specs.Lines.{lines_of}
-use Rattle.ihex_read.specs.Word.{word_of_digits}
+use Rattle.text_lines.specs.Lines.{lines_of}
+use Rattle.hex_digits.specs.EitherCase.{word_in_either_case}
 use Rattle.text_fields.specs.Fields.{behind, cut_at}
 use Rattle.assert_check.specs.declared.assertion.Assertion.{Assertion}
 use Rattle.assert_check.specs.declared.assertion.Assertion.TheVariants.{NoExec, NoRead, NoWrite, Stack}
@@ -23,7 +23,7 @@ range_from lo hi = None
 
 -- two numbers with a hyphen between
 abbrev pub range_of : List ℕ → Option (ℕ × ℕ)
-range_of text = option_and_then (λ parts. range_from (word_of_digits parts.0) (word_of_digits parts.1)) (cut_at 45 text)
+range_of text = option_and_then (λ parts. range_from (word_in_either_case parts.0) (word_in_either_case parts.1)) (cut_at 45 text)
 
 abbrev pub no_exec : List ℕ → Option Assertion
 no_exec text = option_map (λ range. NoExec range.0 range.1) (range_of text)

@@ -2,7 +2,7 @@
 
 ghost use Rattle.std.specs.Prelude.{◌≡◌, ℕ, List, [], flat_map};
 ghost use Rattle.call_context.specs.declared.shown.Item.{Item};
-ghost use Rattle.chip_law.specs.declared.chip.Work.{Work};
+ghost use Rattle.chip_analysis.specs.declared.chip.Work.{Work};
 ghost use Rattle.closing_law.specs.Covered.{AreCovering};
 ghost use Rattle.assert_check.specs.Assertions.{broken_of};
 ghost use Rattle.assert_check.specs.Holding.{Holds};

@@ -6,9 +6,9 @@ ghost use Rattle.assert_check.specs.Lines.{Tells, TellsLine, assertions_behind, 
 use crate::assertion::Assertion;
 use crate::parsing::assertion_of;
 use chip_numbers::Space;
-use ihex_read::without_return;
 use std::alloc::Global;
 use text_fields::cut;
+use text_lines::without_return;
 use thiserror::Error;
 
 /// The longest text of assertions, in bytes.

@@ -6,7 +6,7 @@ ghost use Rattle.assert_check.specs.Lines as lines;
 
 use crate::assertion::Assertion;
 use chip_numbers::Space;
-use ihex_read::word_of_digits;
+use hex_digits::word_in_either_case;
 use item_lines::space_name;
 use text_fields::{behind, cut};
 
@@ -15,7 +15,7 @@ fn range_of(text: &[u8]) -> Option<(u16, u16)>
     ensures { result ≡ lines.range_of text.now }
 {
     let (first, last) = cut(text, b'-')?;
-    let (lo, hi) = (word_of_digits(first)?, word_of_digits(last)?);
+    let (lo, hi) = (word_in_either_case(first)?, word_in_either_case(last)?);
     if lo <= hi { Some((lo, hi)) } else { None }
 }
 

@@ -1,7 +1,7 @@
 -- Tickets that are out to a seat, and the last of them.
 use Rattle.std.proofs.Common.{◌≡◌, Bool, List, [], ◌∷◌, ◌++◌, Some}
 use Rattle.std.specs.List.{AllByRecursion, IsDistinct}
-use Rattle.chip_law.specs.Analysis.{Analysis}
+use Rattle.chip_analysis.specs.Analysis.{Analysis}
 use Rattle.fact_table.specs.Seats.{AreOutTo}
 use Rattle.round_core.specs.Machine.{Out}
 use Rattle.round_core.specs.declared.event.Event.{Event}

@@ -1,16 +1,16 @@
--- Small chips for rows, whose states are numbers. One counts, one never comes to rest, and the others have a chain of
--- locations, a tree, an interrupt, and locations that race.
+-- Small chips for rows, whose states are numbers. One counts, one counts at two locations, one never comes to rest, and the others
+-- have a chain of locations, a tree, an interrupt, and locations that race.
 use Rattle.std.specs.Prelude.{ℕ, ◌+◌, ◌*◌, ◌≤◌, ◌==◌, Bool, true, false, Some, nat_le, nat_lt, if◌then◌else◌, List, [], ◌∷◌, max, min}
 use Rattle.book_rows.specs.declared.shape.Shape.{Shape}
-use Rattle.book_rows.specs.declared.shape.Shape.TheVariants.{Counting, Restless, Chain, Tree, Interrupted, Racing}
+use Rattle.book_rows.specs.declared.shape.Shape.TheVariants.{Counting, Pair, Restless, Chain, Tree, Interrupted, Racing}
 use Rattle.call_context.specs.declared.node.Frame.{Frame}
 use Rattle.call_context.specs.declared.node.Frame.TheVariants.{Base, Irq}
 use Rattle.call_context.specs.declared.node.Node.{Node}
 use Rattle.call_context.specs.declared.node.Node.TheVariants.{At, Exit}
 use Rattle.call_context.specs.declared.node.Unit.{Unit as WorkUnit}
 use Rattle.call_context.specs.declared.node.Unit.TheVariants.{One, Back}
-use Rattle.chip_law.specs.Analysis.{Analysis}
-use Rattle.chip_law.specs.declared.chip.Work.{Work}
+use Rattle.chip_analysis.specs.Analysis.{Analysis}
+use Rattle.chip_analysis.specs.declared.chip.Work.{Work}
 
 abbrev pub node_at : ℕ → Node
 node_at pc = At pc [] Base
@@ -25,6 +25,12 @@ least n = min n 4294967295
 -- a number plus one, where that is a number
 abbrev pub counting : ℕ → Work ℕ
 counting at = posting ((node_at 0, least (at + 1)) ∷ [])
+
+-- location 0 leads to 1 and 2, each of which posts its number plus one to itself
+abbrev pub pairing : ℕ → ℕ → Work ℕ
+pairing pc at =
+    if pc == 0 then posting ((node_at 1, 0) ∷ (node_at 2, 0) ∷ [])
+    else posting ((node_at pc, least (at + 1)) ∷ [])
 
 -- each location but the last posts 0 to the next
 abbrev pub leading : ℕ → ℕ → Work ℕ
@@ -66,6 +72,7 @@ racing pc at =
 -- what a location of a shape posts
 abbrev pub location_work : Shape → ℕ → ℕ → Work ℕ
 location_work Counting pc at = counting at
+location_work Pair pc at = pairing pc at
 location_work Restless pc at = counting at
 location_work (Chain end) pc at = leading end pc
 location_work (Tree end) pc at = branching end pc
@@ -79,6 +86,7 @@ located shape (Back node exit) at = posting []
 
 abbrev pub work_of : Shape → WorkUnit → ℕ → Work ℕ
 work_of Counting unit at = located Counting unit at
+work_of Pair unit at = located Pair unit at
 work_of Restless unit at = located Restless unit at
 work_of (Chain end) unit at = located (Chain end) unit at
 work_of (Tree end) unit at = located (Tree end) unit at
@@ -88,6 +96,7 @@ work_of Racing unit at = located Racing unit at
 -- a number is within each that is no less; of the restless chip none is within another
 abbrev pub within_of : Shape → ℕ → ℕ → Bool
 within_of Counting = nat_le
+within_of Pair = nat_le
 within_of Restless = λ new held. false
 within_of (Chain end) = nat_le
 within_of (Tree end) = nat_le

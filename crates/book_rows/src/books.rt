@@ -5,7 +5,7 @@ ghost use Rattle.std.specs.Prelude.{◌≡◌, IfOk};
 use crate::chip::{HANDLER, node_at, of_shape};
 use crate::shape::Shape;
 use call_context::{Calls, Node, Unit};
-use chip_law::Chip;
+use chip_analysis::Chip;
 use no_memory::Memory;
 use round_core::{Book, Claimed, Done, Event};
 use std::alloc::Global;

@@ -5,7 +5,7 @@ ghost use Rattle.book_rows.specs.Chips as chips;
 
 use crate::shape::Shape;
 use call_context::{Calls, Frame, Node, Sequence, Unit};
-use chip_law::{Chip, Work};
+use chip_analysis::{Chip, Work};
 use no_memory::Memory;
 use std::alloc::Global;
 use std::sync::atomic::AtomicU64;
@@ -144,6 +144,17 @@ fn racing(alloc: Global, pc: u16, at: u32) -> Result<Work<u32>, Memory>
     posting(alloc, first, second)
 }
 
+/// The work of a location of two that count.
+fn pairing(alloc: Global, pc: u16, at: u32) -> Result<Work<u32>, Memory>
+    ensures { IfOk result (λ work. work ≡ chips.pairing pc at) }
+{
+    let (first, second) = match pc {
+        0 => (Some((node_at(1), 0)), Some((node_at(2), 0))),
+        _ => (Some((node_at(pc), at.saturating_add(1))), None),
+    };
+    posting(alloc, first, second)
+}
+
 /// The work of a location of a shape.
 fn location_work(alloc: Global, shape: Shape, pc: u16, at: u32) -> Result<Work<u32>, Memory>
     ensures { IfOk result (λ work. work ≡ chips.location_work shape pc at) }
@@ -152,6 +163,7 @@ fn location_work(alloc: Global, shape: Shape, pc: u16, at: u32) -> Result<Work<u
         Shape::Counting | Shape::Restless => {
             posting(alloc, Some((node_at(0), at.saturating_add(1))), None)
         }
+        Shape::Pair => pairing(alloc, pc, at),
         Shape::Chain(last) if pc < last => posting(alloc, Some((node_at(pc + 1), 0)), None),
         Shape::Tree(last) => branching(alloc, pc, last),
         Shape::Racing => racing(alloc, pc, at),

@@ -10,7 +10,7 @@ use crate::books::run_for;
 use crate::chip::{node_at, of_shape};
 use crate::shape::Shape;
 use call_context::Node;
-use chip_law::Chip;
+use chip_analysis::Chip;
 use fact_table::{Exchanged, FactTable, Last, Seat};
 use no_memory::Memory;
 use round_core::{Book, Done, Event, Ticket};
@@ -182,15 +182,18 @@ fn what_has_risen_is_worked_out_anew(rt: HostRuntime) -> Result<(), Fail> {
 
 /// The parts of a book by posts that don't look ahead.
 fn posted<C: Chip<Abs = u32>>(alloc: Global, chip: &C) -> Result<Parts, Memory> {
-    Ok(parts_of(run_for(alloc, chip, 100)?))
+    Ok(parts_of(run_for(alloc, chip, 200)?))
 }
 
-/// As many calls make the same book, node by node and event by event: what was looked ahead is taken, and not worked out again.
+/// Of two units that are out beside each other the second one looks ahead. As many calls make the same nodes as without: what was
+/// looked ahead is taken, and not worked out again.
 #[test]
-fn looking_ahead_makes_the_same_book(rt: HostRuntime) -> Result<(), Fail> {
-    let (chip, ahead) = (of_shape(Shape::Counting), of_shape(Shape::Counting));
-    let parts = posted(rt.alloc(), &chip)?;
-    let (_, looked) = told_by(&rt, rt.alloc(), &ahead, &[(1, 1); 70])?;
-    assert_eq!(rt; (looked, ahead.counts()), (parts, chip.counts()));
+fn looking_ahead_makes_the_same_nodes(rt: HostRuntime) -> Result<(), Fail> {
+    let (chip, ahead) = (of_shape(Shape::Pair), of_shape(Shape::Pair));
+    let (nodes, journal) = posted(rt.alloc(), &chip)?;
+    let (_, looked) = told_by(&rt, rt.alloc(), &ahead, &[(2, 1); 70])?;
+    let found = (looked.0, looked.1.len(), ahead.counts());
+    let wanted = (nodes, journal.len(), (28, 64, 32, 2));
+    assert_eq!(rt; (found, chip.counts()), (wanted, (28, 64, 32, 2)));
     Ok(())
 }

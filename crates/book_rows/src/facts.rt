@@ -6,7 +6,7 @@ ghost use Rattle.fact_table.specs.Named.{table_of};
 use crate::books::{Sizes, sizes};
 use crate::chip::of_shape;
 use crate::shape::Shape;
-use chip_law::Chip;
+use chip_analysis::Chip;
 use fact_table::{FactTable, Seat};
 use no_memory::Memory;
 use round_core::{Book, Claimed, Done};

@@ -5,7 +5,9 @@
 pub enum Shape {
     /// The only location counts: it posts its number plus one to itself.
     Counting,
-    /// The same, and no number is within another: whatever is posted raises its node.
+    /// Location 0 leads to 1 and 2, which count beside each other.
+    Pair,
+    /// The only location counts, and no number is within another: whatever is posted raises its node.
     Restless,
     /// Locations from 0 to the last, each of which leads to the next.
     Chain(u16),

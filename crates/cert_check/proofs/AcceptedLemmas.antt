@@ -9,8 +9,8 @@ use Rattle.std.proofs.lemmas.List.Sorted.{All-permutation, IsPermutation-map}
 use Rattle.std.proofs.lemmas.Map.Keys.{IsDistinct-IsPermutation}
 use Rattle.std.proofs.lemmas.Map.Views.{lookup-from_Contains}
 use Rattle.call_context.specs.declared.node.Node.{Node}
-use Rattle.chip_law.specs.Analysis.{Analysis}
-use Rattle.chip_law.specs.Table.{IsFormedTable}
+use Rattle.chip_analysis.specs.Analysis.{Analysis}
+use Rattle.chip_analysis.specs.Table.{IsFormedTable}
 use Rattle.closing_law.specs.ClosedBook.{table_in}
 use Rattle.round_core.specs.Same.{same_node}
 use Rattle.cert_text.specs.Writing.{AreNodes}

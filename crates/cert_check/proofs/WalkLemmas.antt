@@ -7,8 +7,8 @@ use Rattle.call_context.specs.declared.node.Node.{Node}
 use Rattle.call_context.specs.declared.node.Node.TheVariants.{At}
 use Rattle.call_context.specs.declared.node.Unit.{Unit as WorkUnit}
 use Rattle.call_context.specs.declared.node.Unit.TheVariants.{One}
-use Rattle.chip_law.specs.declared.chip.Work.{Work}
-use Rattle.chip_law.specs.Analysis.{Analysis}
+use Rattle.chip_analysis.specs.declared.chip.Work.{Work}
+use Rattle.chip_analysis.specs.Analysis.{Analysis}
 use Rattle.item_lines.specs.Line.{open_line_of}
 use Rattle.cert_text.specs.Certificate.{is_below}
 use Rattle.cert_check.proofs.TableLemmas.{drop_next}

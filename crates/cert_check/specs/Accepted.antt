@@ -1,7 +1,7 @@
 -- A certificate of what an analysis found is accepted.
 use Rattle.std.specs.Prelude.{◌≡◌, ℕ, None, Ok, List, IsPermutation}
 use Rattle.call_context.specs.declared.node.Node.{Node}
-use Rattle.chip_law.specs.Analysis.{Analysis}
+use Rattle.chip_analysis.specs.Analysis.{Analysis}
 use Rattle.round_core.specs.Kept.{nodes_of}
 use Rattle.round_core.specs.Machine.{replay}
 use Rattle.round_core.specs.declared.event.Event.{Event}

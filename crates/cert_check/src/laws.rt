@@ -2,7 +2,7 @@
 
 ghost use Rattle.std.specs.Prelude.{◌≡◌, ◌↔◌, ℕ, List, None};
 ghost use Rattle.call_context.specs.declared.node.Node.{Node as ANode};
-ghost use Rattle.chip_law.specs.Table.{IsClosedTable};
+ghost use Rattle.chip_analysis.specs.Table.{IsClosedTable};
 ghost use Rattle.closing_law.specs.ClosedBook.{IsClosedBook, table_in};
 ghost use Rattle.cert_text.specs.Writing.{AreNodes, IsCert};
 ghost use Rattle.cert_check.specs.Accepted.{GivesReport, IsAccepted};

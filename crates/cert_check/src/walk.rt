@@ -14,7 +14,7 @@ use crate::refusal::{CheckError, Refusal};
 use crate::table::Table;
 use call_context::{Cause, Frame, Node, Unit};
 use cert_text::Cert;
-use chip_law::Work;
+use chip_analysis::Work;
 use closing_law::ClosedBook;
 use item_lines::open_line;
 use no_memory::Memory;

@@ -13,7 +13,7 @@ use Rattle.call_context.specs.declared.shown.Cause.{Cause}
 use Rattle.call_context.specs.declared.shown.Cause.TheVariants.{Fetch, Targets}
 use Rattle.value_set.specs.Form.{make}
 use Rattle.call_context.specs.Nodes.{HasEntry, IsLocation, frame_of, pc_of}
-use Rattle.chip_law.specs.Analysis.{AreFormed, IsOrdered, KeepsForm}
+use Rattle.chip_analysis.specs.Analysis.{AreFormed, IsOrdered, KeepsForm}
 use Rattle.chip_law.specs.Laws.{IsLawful, location_of}
 use Rattle.text_fields.specs.Numbers.{hex_number_is_exact, number_avoids}
 use Rattle.node_fields.specs.Nodes.{IsNodeText}

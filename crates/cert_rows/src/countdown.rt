@@ -6,7 +6,8 @@ ghost use Rattle.call_context.specs.declared.node.Node.TheVariants.{At};
 ghost use Rattle.cert_rows.specs.Countdown as countdown;
 
 use call_context::{Calls, Cause, Frame, Node, Sequence, Unit};
-use chip_law::{Chip, LawfulChip, Work};
+use chip_analysis::{Chip, Work};
+use chip_law::LawfulChip;
 use no_memory::Memory;
 use state_text::{LawfulText, Outside, StateText};
 use std::alloc::Global;

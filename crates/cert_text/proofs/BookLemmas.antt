@@ -7,8 +7,8 @@ use Rattle.std.proofs.lemmas.Bool.{cases_Bool, cond-true, cond-false}
 use Rattle.std.proofs.lemmas.List.Elements.{All-from_recursion}
 use Rattle.std.proofs.lemmas.Option.{none-some}
 use Rattle.call_context.specs.declared.node.Node.{Node}
-use Rattle.chip_law.specs.Analysis.{Analysis}
-use Rattle.chip_law.specs.Table.{IsFormedTable}
+use Rattle.chip_analysis.specs.Analysis.{Analysis}
+use Rattle.chip_analysis.specs.Table.{IsFormedTable}
 use Rattle.round_core.specs.Counts.{AreApart}
 use Rattle.round_core.specs.Machine.{Held, held_at}
 use Rattle.round_core.specs.Same.{same_node}

@@ -4,7 +4,7 @@ use Rattle.std.specs.Prelude.{◌↔◌, option_and_then, option_map}
 use Rattle.std.specs.Str.{bytes_eq}
 use Rattle.call_context.specs.declared.node.Node.{Node}
 use Rattle.call_context.specs.declared.node.Node.TheVariants.{At, Exit}
-use Rattle.chip_law.specs.Analysis.{Analysis}
+use Rattle.chip_analysis.specs.Analysis.{Analysis}
 use Rattle.text_fields.specs.Lines.{IsOneLine}
 use Rattle.text_fields.specs.Spelling.{IsExact, has_byte-between}
 use Rattle.node_fields.specs.Nodes.{node_field, node_in_one_line, row_is_exact, row_text, row_value, split_row}

@@ -5,7 +5,7 @@ use Rattle.std.specs.List.{AllByRecursion}
 use Rattle.std.proofs.lemmas.List.{length-map, take-append-drop}
 use Rattle.std.proofs.Math.Seq.{take-suc}
 use Rattle.call_context.specs.declared.node.Node.{Node}
-use Rattle.chip_law.specs.Analysis.{Analysis}
+use Rattle.chip_analysis.specs.Analysis.{Analysis}
 use Rattle.text_fields.specs.Lines.{IsOneLine, counted, joined, joined-line, joined-rest, lines_cut-joined, lines_cut-more, read_on, reading, reading-append, whole_lines}
 use Rattle.text_fields.specs.Spelling.{has_byte-both}
 use Rattle.state_text.specs.Texts.{StateTexts}

@@ -6,7 +6,7 @@ use Rattle.std.specs.Cmp.Lexicographic.{slice_cmp}
 use Rattle.std.specs.Ordering.{is_lt, nat_cmp}
 use Rattle.std.specs.Str.{bytes_eq}
 use Rattle.call_context.specs.declared.node.Node.{Node}
-use Rattle.chip_law.specs.Analysis.{Analysis}
+use Rattle.chip_analysis.specs.Analysis.{Analysis}
 use Rattle.text_fields.specs.Lines.{joined, reading, rest_of, whole_lines}
 use Rattle.text_fields.specs.Spelling.{Spelling}
 use Rattle.node_fields.specs.Nodes.{node_field, row_field}

@@ -2,7 +2,7 @@
 use Rattle.std.specs.Prelude.{◌≡◌, ◌≤◌, ◌<◌, ◌+◌, ◌^◌, ℕ, Option, Result, Ok, Err, List, length}
 use Rattle.std.specs.List.{AllByRecursion}
 use Rattle.call_context.specs.declared.node.Node.{Node}
-use Rattle.chip_law.specs.Analysis.{Analysis}
+use Rattle.chip_analysis.specs.Analysis.{Analysis}
 use Rattle.text_fields.specs.Lines.{IsOneLine, joined, reading, whole_lines}
 use Rattle.state_text.specs.Texts.{StateTexts}
 use Rattle.cert_text.specs.declared.fault.LineFault.{LineFault}

@@ -7,7 +7,7 @@ ghost use Rattle.std.specs.List.Sorted.{IsSortedByKey};
 ghost use Rattle.std.specs.Ordering.{nat_cmp};
 ghost use Rattle.round_core.specs.Kept.{nodes_of};
 ghost use Rattle.round_core.specs.Machine.{replay};
-ghost use Rattle.vsa_io.specs.Stream.{AppendsPrefix, HasRisen, appended};
+ghost use Rattle.streams.specs.Stream.{AppendsPrefix, HasRisen, appended};
 ghost use Rattle.cert_text.specs.Writing as writing;
 ghost use Rattle.cert_text.specs.Writing.{AreNodes, IsCert, bytes_of, line_of};
 
@@ -18,7 +18,7 @@ use no_memory::Memory;
 use round_core::{Book, tests_tell_which_are_one};
 use state_text::LawfulText;
 use std::alloc::{AllocError, Global};
-use vsa_io::{PrintError, Sink, write_all};
+use streams::{PrintError, Sink, write_all};
 
 /// A node and its state as they are written.
 fn written<C: LawfulText>(

@@ -1,7 +1,7 @@
 -- A text has one verdict, and that of a closed table covers every run.
 use Rattle.std.proofs.Common.{◌≡◌, ℕ, Bool, true, Option, None, Some, Result, Ok, Err, List, sym, ap, ◌∙◌}
 use Rattle.call_context.specs.declared.node.Node.{Node}
-use Rattle.chip_law.specs.Analysis.{Analysis}
+use Rattle.chip_analysis.specs.Analysis.{Analysis}
 use Rattle.closing_law.specs.ClosedBook.{IsClosedBook}
 use Rattle.report_text.specs.Report.{closed_report}
 use Rattle.state_text.specs.Texts.{StateTexts}

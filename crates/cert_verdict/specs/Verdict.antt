@@ -1,7 +1,7 @@
 -- What is told of a certificate: the report of its table, where that is closed, or why it is refused.
 use Rattle.std.specs.Prelude.{◌≡◌, ℕ, Bool, true, false, None, Some, Ok, Err, List}
 use Rattle.call_context.specs.declared.node.Node.{Node}
-use Rattle.chip_law.specs.Analysis.{Analysis}
+use Rattle.chip_analysis.specs.Analysis.{Analysis}
 use Rattle.closing_law.specs.ClosedBook.{IsClosedBook}
 use Rattle.report_text.specs.Report.{closed_report}
 use Rattle.state_text.specs.Texts.{StateTexts}

@@ -2,7 +2,7 @@
 
 ghost use Rattle.std.specs.Prelude.{◌≡◌, ℕ, Bool, true, List, Ok};
 ghost use Rattle.call_context.specs.declared.node.Node.{Node};
-ghost use Rattle.chip_law.specs.Table.{IsClosedTable};
+ghost use Rattle.chip_analysis.specs.Table.{IsClosedTable};
 ghost use Rattle.closing_law.specs.ClosedBook.{table_in};
 ghost use Rattle.round_core.specs.Kept.{nodes_of};
 ghost use Rattle.round_core.specs.Machine.{replay, IsClosed, IsLegalJournal};

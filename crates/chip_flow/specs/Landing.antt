@@ -12,8 +12,8 @@ use Rattle.call_context.specs.declared.shown.Item.TheVariants as items
 use Rattle.call_context.specs.Showing.{AreShowing, HasValue}
 use Rattle.chip_numbers.specs.Single.{Single}
 use Rattle.chip_numbers.specs.Single.Single.{Instr as Ran, Edge as Went, Stack as Stood}
-use Rattle.chip_law.specs.declared.chip.Work.{Work}
-use Rattle.chip_law.specs.Analysis.{Analysis}
+use Rattle.chip_analysis.specs.declared.chip.Work.{Work}
+use Rattle.chip_analysis.specs.Analysis.{Analysis}
 use Rattle.chip_law.specs.Laws.{Cover, IsWaitedFor, Lands}
 use Rattle.chip_law.specs.Laws.Lands.{enters, leaves, stays}
 use Rattle.chip_law.specs.Machine.{Machine}

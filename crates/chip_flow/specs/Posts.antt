@@ -10,8 +10,8 @@ use Rattle.call_context.specs.declared.node.Node.TheVariants.{At, Exit}
 use Rattle.call_context.specs.declared.node.Unit.{Unit as WorkUnit}
 use Rattle.call_context.specs.declared.node.Unit.TheVariants.{One, Back}
 use Rattle.call_context.specs.declared.shown.Item.TheVariants.{Edge}
-use Rattle.chip_law.specs.declared.chip.Work.{Work}
-use Rattle.chip_law.specs.Analysis.{Analysis, AreFormed}
+use Rattle.chip_analysis.specs.declared.chip.Work.{Work}
+use Rattle.chip_analysis.specs.Analysis.{Analysis, AreFormed}
 use Rattle.plain_lemmas.specs.Members.{from_map, in_none, in_one}
 use Rattle.unit_ways.specs.Laws.{WayLaws}
 use Rattle.unit_ways.specs.Ways.{Going, Way, ways_of, ways_to}

@@ -8,8 +8,8 @@ use Rattle.call_context.specs.declared.node.Node.TheVariants.{At, Exit}
 use Rattle.call_context.specs.declared.node.Unit.TheVariants.{Back}
 use Rattle.call_context.specs.declared.shown.Item.TheVariants.{Edge}
 use Rattle.call_context.specs.Nodes.{IsLocation, HasEntry, frame_of}
-use Rattle.chip_law.specs.declared.chip.Work.{Work}
-use Rattle.chip_law.specs.Analysis.{Analysis}
+use Rattle.chip_analysis.specs.declared.chip.Work.{Work}
+use Rattle.chip_analysis.specs.Analysis.{Analysis}
 use Rattle.chip_law.specs.Laws.{Cover, Resumes}
 use Rattle.chip_law.specs.Machine.{Machine}
 use Rattle.plain_lemmas.specs.Members.{in_first}

@@ -12,7 +12,7 @@ use Rattle.call_context.specs.declared.node.Unit.TheVariants.{One, Back}
 use Rattle.call_context.specs.declared.shown.Item.{Item}
 use Rattle.call_context.specs.declared.shown.Item.TheVariants as items
 use Rattle.call_context.specs.declared.shown.Set.{Set}
-use Rattle.chip_law.specs.declared.chip.Work.{Work}
+use Rattle.chip_analysis.specs.declared.chip.Work.{Work}
 use Rattle.unit_ways.specs.Ways.{Way, edges_of, ways_of, ways_to}
 use Rattle.chip_flow.specs.Calls.{Site}
 use Rattle.chip_flow.specs.Flow.{Flow}

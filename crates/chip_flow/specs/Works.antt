@@ -13,7 +13,7 @@ use Rattle.call_context.specs.declared.shown.Item.{Item}
 use Rattle.call_context.specs.declared.shown.Item.TheVariants.{Edge, Instr, Stack}
 use Rattle.call_context.specs.declared.shown.Set.{Set}
 use Rattle.call_context.specs.declared.shown.Set.TheVariants.{B, W}
-use Rattle.chip_law.specs.declared.chip.Work.{Work}
+use Rattle.chip_analysis.specs.declared.chip.Work.{Work}
 use Rattle.value_set.specs.Joining.{is_in}
 use Rattle.unit_ways.specs.Ways.{Going}
 use Rattle.chip_flow.specs.declared.going.Followed.{Followed}

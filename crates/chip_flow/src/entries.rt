@@ -7,7 +7,7 @@ ghost use Rattle.chip_flow.specs.Works as the_works;
 use crate::flow::Flow;
 use crate::kept::Kept;
 use call_context::{Calls, Frame, Item, Node, Sequence};
-use chip_law::Work;
+use chip_analysis::Work;
 use no_memory::Memory;
 use std::alloc::Global;
 

@@ -8,7 +8,7 @@ use crate::calls::CallEffect;
 use crate::going::Followed;
 use crate::kept::Kept;
 use call_context::{Frame, InstrBytes, Item, Sequence, Set};
-use chip_law::Work;
+use chip_analysis::Work;
 use no_memory::Memory;
 use std::alloc::Global;
 

@@ -39,7 +39,8 @@ pub enum Onward<S> {
 pub struct Followed<S> {
     /// Its accesses to memory.
     pub accesses: Sequence<Item>,
-    pub onward: Onward<S>,
+    /// What is known stands behind pointers here, since it is moved often.
+    pub onward: Onward<Kept<S>>,
     /// Why its store is left open, if it is.
     pub store: Option<Cause>,
 }
@@ -106,42 +107,26 @@ impl<'a, F: Flow> Site for CallSite<'a, F> {
     }
 }
 
-/// Keeps what is known, where that can be.
-fn kept<S: Drop>(alloc: Global, known: Option<S>) -> Result<Option<Kept<S>>, Memory>
-    ensures { IfOk result (λ kept. kept ≡ known) }
-{
-    match known {
-        Some(state) => Ok(Some(Kept::new(alloc, state)?)),
-        None => Ok(None),
-    }
-}
-
 /// Adds where an instruction goes on.
 pub(crate) fn go_on<F: Flow>(
     alloc: Global,
     ways: &mut Ways<Kept<F::State>>,
     site: &CallSite<F>,
-    onward: Onward<F::State>,
+    onward: Onward<Kept<F::State>>,
 ) -> Result<(), Memory>
     ensures items { OnOk result (ways.new.items ≡ ways.old.items ++ (going_by F.joined site.now onward).edges) }
     ensures posts { OnOk result (ways.new.posts ≡ ways.old.posts ++ (going_by F.joined site.now onward).posts) }
     ensures opens { OnOk result (ways.new.opens ≡ ways.old.opens ++ (going_by F.joined site.now onward).opens) }
 {
     match onward {
-        Onward::Leaves(state) => leave(ways, site.pc, site.frame, Kept::new(alloc, state)?),
+        Onward::Leaves(state) => leave(ways, site.pc, site.frame, state),
         Onward::Open(targets) => leave_open(ways, site.pc, targets),
-        Onward::Lands { targets, behind } => {
-            add_each(alloc, ways, site, &targets, Kept::new(alloc, behind)?)
-        }
+        Onward::Lands { targets, behind } => add_each(alloc, ways, site, &targets, behind),
         Onward::Jumps {
             behind,
             target,
             on,
             jumped,
-        } => {
-            let on = kept(alloc, on)?;
-            let jumped = kept(alloc, jumped)?;
-            add_either(alloc, ways, site, behind, target, on, jumped)
-        }
+        } => add_either(alloc, ways, site, behind, target, on, jumped),
     }
 }

@@ -30,6 +30,16 @@ impl<S: Drop> Kept<S> {
         Ok(Kept { state })
     }
 
+    /// Keeps what is known, where that can be.
+    pub fn if_known(alloc: Global, known: Option<S>) -> Result<Option<Kept<S>>, Memory>
+        ensures { IfOk result (λ kept. kept ≡ known) }
+    {
+        match known {
+            Some(state) => Ok(Some(Kept::new(alloc, state)?)),
+            None => Ok(None),
+        }
+    }
+
     /// The same, shared. It fails only where no number counts the owners.
     pub fn copy(&self) -> Result<Kept<S>, Memory>
         ensures { IfOk result (λ copy. copy ≡ self.now) }

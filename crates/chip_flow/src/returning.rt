@@ -9,7 +9,7 @@ use crate::kept::Kept;
 use crate::location::Location;
 use crate::works::empty_work;
 use call_context::{Frame, Item, Node, Set};
-use chip_law::Work;
+use chip_analysis::Work;
 use no_memory::Memory;
 use std::alloc::Global;
 use value_set::members_are_below;

@@ -11,7 +11,7 @@ use crate::kept::Kept;
 use crate::location::Location;
 use crate::returning::back;
 use call_context::{Cause, Item, Node, Sequence, Unit};
-use chip_law::Work;
+use chip_analysis::Work;
 use no_memory::Memory;
 use std::alloc::Global;
 use unit_ways::Ways;

@@ -10,8 +10,8 @@ use Rattle.call_context.specs.declared.node.Unit.TheVariants.{One, Back}
 use Rattle.call_context.specs.declared.shown.Cause.{Cause}
 use Rattle.call_context.specs.declared.shown.Cause.TheVariants.{Fetch, Targets, Store}
 use Rattle.call_context.specs.Nodes.{pc_of, frame_of, HasEntry, IsLocation}
-use Rattle.chip_law.specs.declared.chip.Work.{Work}
-use Rattle.chip_law.specs.Analysis.{Analysis, AreFormed, KeepsForm, IsOrdered}
+use Rattle.chip_analysis.specs.declared.chip.Work.{Work}
+use Rattle.chip_analysis.specs.Analysis.{Analysis, AreFormed, KeepsForm, IsOrdered}
 use Rattle.chip_law.specs.Machine.{Machine}
 use Rattle.call_context.specs.Showing.{AreShowing}
 use Rattle.chip_numbers.specs.Single.{Single}

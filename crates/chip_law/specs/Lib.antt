@@ -1,6 +1,4 @@
-pub mod Analysis
 pub mod Laws
 pub mod Machine
 pub mod Outcome
 pub mod Runs
-pub mod Table

@@ -1,6 +1,7 @@
-//! What an analysis asks of a chip: machines and their runs, analyses, and the laws that tie them.
+//! What a chip does, in machines and their runs, and the laws that tie its analysis to it.
 #![tactic(auto)]
 
-mod chip;
+mod lawful;
 
-pub use chip::{Chip, LawfulChip, Work};
+pub use chip_analysis::{Chip, Work};
+pub use lawful::LawfulChip;

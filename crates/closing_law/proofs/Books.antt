@@ -7,11 +7,11 @@ use Rattle.call_context.specs.declared.node.Unit.{Unit as WorkUnit}
 use Rattle.call_context.specs.declared.node.Unit.TheVariants.{One, Back}
 use Rattle.call_context.specs.declared.shown.Cause.{Cause}
 use Rattle.call_context.specs.Nodes.{IsLocation}
-use Rattle.chip_law.specs.declared.chip.Work.{Work}
-use Rattle.chip_law.specs.Analysis.{Analysis, AreFormed}
+use Rattle.chip_analysis.specs.declared.chip.Work.{Work}
+use Rattle.chip_analysis.specs.Analysis.{Analysis, AreFormed}
 use Rattle.chip_law.specs.Laws.{Cover, IsLawful, location_of}
 use Rattle.chip_law.specs.Machine.{Machine}
-use Rattle.chip_law.specs.Table.{IsFormedTable, IsUnitOver}
+use Rattle.chip_analysis.specs.Table.{IsFormedTable, IsUnitOver}
 use Rattle.closing_law.specs.Covered.{AreCovering, CoversRuns, IsBroken, NoneIsOpen}
 use Rattle.round_core.specs.Kept.{live_pairs, live_works}
 use Rattle.round_core.specs.Machine.{BookState, Done, done_at, IsUnit, IsFinished, IsClosed}

@@ -10,9 +10,9 @@ use Rattle.call_context.specs.declared.node.Node.{Node}
 use Rattle.call_context.specs.declared.node.Node.TheVariants.{At, Exit}
 use Rattle.call_context.specs.declared.node.Unit.{Unit as WorkUnit}
 use Rattle.call_context.specs.declared.node.Unit.TheVariants.{One, Back}
-use Rattle.chip_law.specs.Analysis.{Analysis}
-use Rattle.chip_law.specs.Table.{IsUnitOver, IsHeldIn, IsClosedTable, IsFormedTable}
-use Rattle.chip_law.specs.declared.chip.Work.{Work}
+use Rattle.chip_analysis.specs.Analysis.{Analysis}
+use Rattle.chip_analysis.specs.Table.{IsUnitOver, IsHeldIn, IsClosedTable, IsFormedTable}
+use Rattle.chip_analysis.specs.declared.chip.Work.{Work}
 use Rattle.closing_law.specs.BookFacts.{ArePairs, IsItsTable}
 use Rattle.closing_law.specs.ClosedBook.{IsClosedBook, table_in}
 use Rattle.round_core.specs.Counts.{AreApart}

@@ -9,8 +9,8 @@ use Rattle.call_context.specs.declared.node.Node.{Node}
 use Rattle.call_context.specs.declared.node.Node.TheVariants.{At, Exit}
 use Rattle.call_context.specs.declared.node.Unit.TheVariants.{One, Back}
 use Rattle.call_context.specs.Nodes.{pc_of, frame_of, IsLocation, HasEntry}
-use Rattle.chip_law.specs.declared.chip.Work.{Work}
-use Rattle.chip_law.specs.Analysis.{Analysis, AreFormed}
+use Rattle.chip_analysis.specs.declared.chip.Work.{Work}
+use Rattle.chip_analysis.specs.Analysis.{Analysis, AreFormed}
 use Rattle.chip_law.specs.Laws.{Cover, IsLawful, Lands, Resumes, IsWaitedFor}
 use Rattle.chip_law.specs.Laws.Lands.{stays, enters, leaves}
 use Rattle.chip_law.specs.Machine.{Machine}
@@ -19,7 +19,7 @@ use Rattle.call_context.specs.Showing.{AreShowing}
 use Rattle.chip_numbers.specs.Single.{Single}
 use Rattle.chip_numbers.specs.Single.Single.{Edge}
 use Rattle.chip_law.specs.Outcome.Outcome.{Next}
-use Rattle.chip_law.specs.Table.{IsUnitOver, IsHeldIn, IsClosedTable, IsFormedTable, WaitsFor}
+use Rattle.chip_analysis.specs.Table.{IsUnitOver, IsHeldIn, IsClosedTable, IsFormedTable, WaitsFor}
 use Rattle.closing_law.specs.Covered.{StandsSomewhere, IsShown, CoversRuns}
 use Rattle.closing_law.specs.Standing.{IsSuspended, Stands}
 

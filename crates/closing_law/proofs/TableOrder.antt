@@ -9,9 +9,9 @@ use Rattle.std.proofs.lemmas.Map.Keys.{IsDistinct-IsPermutation}
 use Rattle.std.proofs.lemmas.Map.Views.{Contains-from_lookup, lookup-from_Contains}
 use Rattle.call_context.specs.declared.node.Node.{Node}
 use Rattle.call_context.specs.declared.node.Unit.{Unit as WorkUnit}
-use Rattle.chip_law.specs.Analysis.{Analysis}
-use Rattle.chip_law.specs.Table.{IsClosedTable}
-use Rattle.chip_law.specs.declared.chip.Work.{Work}
+use Rattle.chip_analysis.specs.Analysis.{Analysis}
+use Rattle.chip_analysis.specs.Table.{IsClosedTable}
+use Rattle.chip_analysis.specs.declared.chip.Work.{Work}
 use Rattle.closing_law.specs.ClosedBook.{HaveSame, IsClosedBook, table_in}
 use Rattle.closing_law.proofs.ClosedBooks.{closed_like, unit_like}
 use Rattle.round_core.specs.Same.{same_node}

@@ -2,7 +2,7 @@
 use Rattle.std.specs.Prelude.{◌+◌, ◌≤◌, List}
 use Rattle.std.specs.List.{AllByRecursion}
 use Rattle.call_context.specs.declared.node.Unit.{Unit as WorkUnit}
-use Rattle.chip_law.specs.Analysis.{Analysis}
+use Rattle.chip_analysis.specs.Analysis.{Analysis}
 use Rattle.round_core.specs.declared.event.Event.{Event}
 use Rattle.round_core.specs.Counts.{claims_of, give_backs_of}
 use Rattle.round_core.specs.Machine.{Held, replay}

@@ -6,12 +6,12 @@ use Rattle.call_context.specs.declared.shown.Cause.{Cause}
 use Rattle.call_context.specs.Nodes.{pc_of, IsLocation}
 use Rattle.call_context.specs.Showing.{AreShowing}
 use Rattle.chip_numbers.specs.Single.{Single}
-use Rattle.chip_law.specs.Analysis.{Analysis}
+use Rattle.chip_analysis.specs.Analysis.{Analysis}
 use Rattle.chip_law.specs.Laws.{Cover}
 use Rattle.chip_law.specs.Machine.{Machine}
 use Rattle.chip_law.specs.Runs.{RunsTo, Meets, GoesWild}
-use Rattle.chip_law.specs.Table.{IsUnitOver}
-use Rattle.chip_law.specs.declared.chip.Work.{Work}
+use Rattle.chip_analysis.specs.Table.{IsUnitOver}
+use Rattle.chip_analysis.specs.declared.chip.Work.{Work}
 use Rattle.closing_law.specs.Standing.{Stands}
 use Rattle.round_core.specs.Machine.{Held}
 use Rattle.round_core.specs.Table.{table_of}

@@ -4,9 +4,9 @@ use Rattle.call_context.specs.declared.node.Frame.{Frame}
 use Rattle.call_context.specs.declared.node.Frame.TheVariants.{Base, Irq}
 use Rattle.call_context.specs.declared.node.Node.{Node}
 use Rattle.call_context.specs.Nodes.{frame_of, IsLocation}
-use Rattle.chip_law.specs.Analysis.{Analysis}
+use Rattle.chip_analysis.specs.Analysis.{Analysis}
 use Rattle.chip_law.specs.Laws.{Cover}
-use Rattle.chip_law.specs.Table.{WaitsFor}
+use Rattle.chip_analysis.specs.Table.{WaitsFor}
 
 module _ {S A : Type 0} (analysis : Analysis A) (covers : Cover S A) (table : Node → Option A) where
   -- A suspended state is where a frame says: under a location that waits for it, where the frame was entered at one

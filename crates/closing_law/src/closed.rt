@@ -10,7 +10,8 @@ ghost use Rattle.round_core.specs.Machine.{replay, IsClosed};
 
 use crate::{closed_book_is_its_table, closed_tables_cover_runs, finished_books_are_their_units};
 use call_context::{Node, Unit};
-use chip_law::{Chip, LawfulChip, Work};
+use chip_analysis::{Chip, Work};
+use chip_law::LawfulChip;
 use round_core::{Book, Event};
 use std::marker::Model;
 use std::snapshot::Snapshot;

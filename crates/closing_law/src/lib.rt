@@ -9,8 +9,8 @@ ghost use Rattle.std.specs.Map.{keys_of};
 ghost use Rattle.call_context.specs.declared.node.Node.{Node};
 ghost use Rattle.call_context.specs.declared.node.Unit.{Unit as WorkUnit};
 ghost use Rattle.call_context.specs.declared.shown.Cause.{Cause};
-ghost use Rattle.chip_law.specs.declared.chip.Work.{Work};
-ghost use Rattle.chip_law.specs.Table.{IsClosedTable, IsFormedTable};
+ghost use Rattle.chip_analysis.specs.declared.chip.Work.{Work};
+ghost use Rattle.chip_analysis.specs.Table.{IsClosedTable, IsFormedTable};
 ghost use Rattle.closing_law.specs.BookFacts.{ArePairs, IsItsTable};
 ghost use Rattle.closing_law.specs.Bounded.{AreBounded};
 ghost use Rattle.closing_law.specs.ClosedBook.{HaveSame, IsClosedBook, table_in};
@@ -20,7 +20,8 @@ ghost use Rattle.round_core.specs.Machine.{replay, IsClosed, IsFinished, IsLegal
 ghost use Rattle.round_core.specs.Same.{same_node};
 ghost use Rattle.round_core.specs.declared.event.Event.{Event};
 
-use chip_law::{Chip, LawfulChip};
+use chip_analysis::Chip;
+use chip_law::LawfulChip;
 pub use closed::{ClosedBook, read_closed, read_closed_with_journal};
 use round_core::{
     claims_are_bounded, closed_book_has_closed_table, finished_book_is_its_table,

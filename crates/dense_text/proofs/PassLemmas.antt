@@ -4,8 +4,8 @@ use Rattle.std.specs.Prelude.{OnErr}
 use Rattle.std.specs.List.{flat_map, repeat}
 use Rattle.std.proofs.lemmas.List.{append-nil, flat_map_more, take-append-drop, take_more}
 use Rattle.std.proofs.lemmas.List.Concat.{flat_map-append}
-use Rattle.vsa_io.specs.Pieces.{AppendsPrefix-first, AppendsPrefix-second, appended-append}
-use Rattle.vsa_io.specs.Stream.{AppendsPrefix, appended}
+use Rattle.streams.specs.Pieces.{AppendsPrefix-first, AppendsPrefix-second, appended-append}
+use Rattle.streams.specs.Stream.{AppendsPrefix, appended}
 use Rattle.dense_text.specs.Behind.{IsBehind}
 use Rattle.dense_text.specs.Ranges.{bytes_at, piece_of, text_of}
 use Rattle.dense_text.specs.declared.parts.Parts.{Parts}

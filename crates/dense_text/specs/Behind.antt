@@ -1,6 +1,6 @@
 -- Bytes on their way to a sink: some of a text were written, and the rest of it is held back.
 use Rattle.std.specs.Prelude.{◌≡◌, ℕ, List, ◌++◌, Option}
-use Rattle.vsa_io.specs.Stream.{appended}
+use Rattle.streams.specs.Stream.{appended}
 
 -- of the text, what isn't held back stands behind what was there before
 pub record IsBehind (before : Option (List ℕ)) (text : List ℕ) (after : Option (List ℕ)) (held : List ℕ) : Type 0 where

@@ -1,14 +1,14 @@
 //! A text, as its readers see it.
 
 ghost use Rattle.std.specs.Prelude.{◌≡◌, ◌++◌, if◌then◌else◌, IfOk, OnOk, OnErr};
-ghost use Rattle.vsa_io.specs.Stream.{AppendsPrefix, HasRisen, appended};
+ghost use Rattle.streams.specs.Stream.{AppendsPrefix, HasRisen, appended};
 
 use crate::copying::into_bytes;
 use crate::parts::{Parts, Piece, Span};
 use crate::writing::write_parts;
 use no_memory::Memory;
 use std::marker::Model;
-use vsa_io::{Failed, Sink};
+use streams::{Failed, Sink};
 
 /// A list of bytes.
 #[derive(Drop)]

@@ -4,11 +4,11 @@ ghost use Rattle.std.specs.Prelude.{◌≡◌, ◌++◌, All, [], OnErr, OnOk};
 ghost use Rattle.std.specs.List.{flat_map};
 ghost use Rattle.dense_text.specs.Behind.{IsBehind};
 ghost use Rattle.dense_text.specs.Ranges.{IsSound, IsWithin, piece_of, text_of};
-ghost use Rattle.vsa_io.specs.Stream.{AppendsPrefix, HasRisen, appended};
+ghost use Rattle.streams.specs.Stream.{AppendsPrefix, HasRisen, appended};
 
 use crate::parts::{Parts, Piece};
 use arrayvec::ArrayVec;
-use vsa_io::{Failed, Sink, write_all};
+use streams::{Failed, Sink, write_all};
 
 /// How many bytes are gathered.
 const ROOM: usize = 16384;

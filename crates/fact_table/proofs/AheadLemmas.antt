@@ -2,7 +2,7 @@
 use Rattle.std.specs.Prelude.{◌≡◌, ◌<◌, ◌⊎◌, ℕ, zero, suc, Some, List, [], ◌∷◌, ◌++◌, length, slice_get, slice_index_or}
 use Rattle.std.proofs.Common.{ap, sym, subst, arith, inl, inr}
 use Rattle.std.proofs.lemmas.Option.{same_Some}
-use Rattle.chip_law.specs.Analysis.{Analysis}
+use Rattle.chip_analysis.specs.Analysis.{Analysis}
 use Rattle.fact_table.specs.Exchange.{AreAhead}
 use Rattle.round_core.specs.Ahead.{IsAhead}
 use Rattle.round_core.specs.declared.ahead.Looked.{Looked}

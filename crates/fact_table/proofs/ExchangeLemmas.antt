@@ -6,7 +6,7 @@ use Rattle.std.proofs.lemmas.Bool.{false_from_ne_true}
 use Rattle.std.proofs.lemmas.Bool.Decides.{nat_tests}
 use Rattle.std.proofs.lemmas.List.{map-append}
 use Rattle.call_context.specs.declared.node.Unit.{Unit as WorkUnit}
-use Rattle.chip_law.specs.Analysis.{Analysis}
+use Rattle.chip_analysis.specs.Analysis.{Analysis}
 use Rattle.fact_table.specs.Exchange.{AnswersFurther, AreClaimed, AreOutOf, AreShared, ClaimsSome, ExchangesOn, IsClaimed, IsWorked, Posts, TellsLast, TellsNone, claim_events, one_unit, post_events, tickets_of, with_events}
 use Rattle.fact_table.specs.declared.exchange.Last.{Last}
 use Rattle.fact_table.specs.declared.exchange.Last.TheVariants.{Full, Shared, Idle, Finished, Memory}

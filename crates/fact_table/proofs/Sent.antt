@@ -4,7 +4,7 @@ use denote.Struct.Declared.{shape}
 use denote.Param.Send.{IsSend, IsSync, sendable, view_send, recorded_send, struct_send}
 use denote.Param.SendFields.{declared_send, declared_sync}
 use Rattle.std.proofs.Crossing.{crosses, Box-send}
-use Rattle.chip_law.specs.declared.chip.Chip.{Ghosts}
+use Rattle.chip_analysis.specs.declared.chip.Chip.{Ghosts}
 use Rattle.round_core.proofs.parts.Parts.TheSendSync as parts
 use Rattle.round_core.proofs.spent.Spent.TheSendSync as spent
 use Rattle.round_core.specs.contracts.book.Book.TheInside as inside

@@ -7,7 +7,7 @@ use Rattle.std.proofs.lemmas.List.{nil_from_length}
 use Rattle.std.proofs.lemmas.List.Elements.{All-nil, All-cons, All-append, filter-append}
 use Rattle.std.proofs.lemmas.Option.{same_Some}
 use Rattle.call_context.specs.declared.node.Unit.{Unit as WorkUnit}
-use Rattle.chip_law.specs.Analysis.{Analysis}
+use Rattle.chip_analysis.specs.Analysis.{Analysis}
 use Rattle.fact_table.specs.Exchange.{AreClaimed, AreOutOf, AreShared, ExchangesOn, TellsLast, claim_events, post_events, tickets_of}
 use Rattle.fact_table.specs.Seats.{looked, recorded_all, claimed_seat, Looks, IsOutTo, AreOutTo, Ends, Claims, Exchanges}
 use Rattle.fact_table.specs.declared.exchange.Exchanged.{Exchanged}

@@ -1,7 +1,7 @@
 -- What each call makes of a seat at the book.
 use Rattle.std.specs.Prelude.{◌≡◌, ℕ, Some, List, [], ◌∷◌, ◌++◌, IsTrue, not}
 use Rattle.std.specs.List.{AllByRecursion}
-use Rattle.chip_law.specs.Analysis.{Analysis}
+use Rattle.chip_analysis.specs.Analysis.{Analysis}
 use Rattle.fact_table.specs.Exchange.{AreClaimed, AreOutOf, TellsLast, claim_events, post_events, tickets_of}
 use Rattle.fact_table.specs.declared.exchange.Exchanged.{Exchanged}
 use Rattle.round_core.specs.Answers.{AnswersClaim}

@@ -8,7 +8,7 @@ ghost use Rattle.round_core.specs.Kept.{with_event, IsOutOf};
 ghost use Rattle.round_core.specs.Machine.{replay};
 ghost use Rattle.round_core.specs.declared.event.Event.TheVariants.{Post};
 
-use chip_law::Chip;
+use chip_analysis::Chip;
 use no_memory::Memory;
 use round_core::{
     Ahead, Book, Claimed, Done, Spent, Ticket, outs_stay_beside, tests_tell_which_are_one,
@@ -84,7 +84,18 @@ pub(crate) fn post_one<C: Chip>(
     (posted, book.take_spent())
 }
 
-/// Works out ahead of the turn what the posts of works make of nodes that don't rise before, as far as memory lasts.
+/// Whether some ticket took along what nodes hold.
+fn can_look_ahead<C: Chip>(done: &[Done<C>]) -> bool {
+    for one in done {
+        if one.ticket.can_look_ahead() {
+            return true;
+        }
+    }
+    false
+}
+
+/// Works out ahead of the turn what the posts of works make of nodes that don't rise before, as far as tickets took along what
+/// nodes hold, and memory lasts.
 pub(crate) fn look_ahead<C: Chip>(
     alloc: Global,
     chip: &C,
@@ -93,6 +104,9 @@ pub(crate) fn look_ahead<C: Chip>(
     ensures { AreAhead (C.analysis (C.base chip.now)) done.now result.items }
 {
     let mut ahead = VecDeque::new(alloc);
+    if !can_look_ahead(done) {
+        return ahead;
+    }
     for one in done {
         match ahead.push_back(one.look_ahead(alloc, chip)) {
             Ok(()) => {}

@@ -1,6 +1,6 @@
 //! The book under the lock.
 
-use chip_law::Chip;
+use chip_analysis::Chip;
 use round_core::{Book, Event};
 use turn_table::Journaled;
 

@@ -14,7 +14,7 @@ ghost use Rattle.turn_table.specs.Shown.{IsOwn, first_seat, seat_split, new_seat
 use crate::door::Door;
 use crate::exchange::{Exchanged, Last, exchange_on, look_ahead, post_one};
 use crate::facts::{Facts, Seat};
-use chip_law::Chip;
+use chip_analysis::Chip;
 use no_memory::Memory;
 use round_core::{Book, Claimed, Done, Spent, Ticket, outs_stay, outs_stay_beside};
 use std::alloc::Global;

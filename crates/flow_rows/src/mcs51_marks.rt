@@ -1,7 +1,7 @@
 //! What widening of the MCS-51 stops at: 0, 1, and each constant of CJNE with the number behind it, at any address.
 
 use crate::images::image_of;
-use chip_law::Chip;
+use chip_analysis::Chip;
 use image::Rules;
 use mcs51_flow::{Kept, Limits, Mcs51Chip};
 use std::alloc::Global;

@@ -2,7 +2,7 @@
 //! number behind it, at any even address.
 
 use crate::images::image_of;
-use chip_law::Chip;
+use chip_analysis::Chip;
 use entry_value::Word;
 use image::Rules;
 use mcs51_flow::Limits;

@@ -1,4 +1,4 @@
-//! The numbers of digits.
+//! The numbers of upper-case digits.
 
 ghost use Rattle.std.specs.Prelude.{◌≡◌, ◌<◌, IfOk, IfSome};
 ghost use Rattle.hex_digits.specs.Digits.{hex, hex_bytes, hex_digit};
@@ -19,7 +19,7 @@ pub fn digit_value(byte: u8) -> Option<u16>
     None
 }
 
-/// The number of two digits.
+/// The number of two upper-case digits.
 pub fn byte(text: &[u8]) -> Option<u16>
     ensures digits { IfSome result (λ value. hex 2 value ≡ text.now) }
     ensures below { IfSome result (λ value. value < 256) }
@@ -30,7 +30,7 @@ pub fn byte(text: &[u8]) -> Option<u16>
     Some(digit_value(*first)? * 16 + digit_value(*second)?)
 }
 
-/// The number of four digits.
+/// The number of four upper-case digits.
 pub fn word(text: &[u8]) -> Option<u16>
     ensures { IfSome result (λ value. hex 4 value ≡ text.now) }
 {
@@ -42,7 +42,7 @@ pub fn word(text: &[u8]) -> Option<u16>
     Some(high * 256 + low)
 }
 
-/// The bytes of digits, two for each.
+/// The bytes of upper-case digits, two for each.
 pub fn bytes(alloc: Global, text: &[u8]) -> Result<Option<Vec<u8>>, AllocError>
     ensures { IfOk result (λ found. IfSome found (λ bytes. hex_bytes bytes.items ≡ text.now)) }
 {

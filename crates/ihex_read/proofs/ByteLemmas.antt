@@ -8,7 +8,7 @@ use Rattle.hex.specs.Hex.{hex_digit_value}
 use Rattle.image.specs.Image.{byte_at, IsByte}
 use Rattle.ihex_read.specs.ImageText.{placed_from, placed_of, Denotes, IsImage}
 use Rattle.image.specs.declared.rule_set.Rules.{Rules}
-use Rattle.ihex_read.specs.declared.tail.Tail.{Tail}
+use Rattle.image.specs.declared.tail.Tail.{Tail}
 use Rattle.ihex_read.specs.Record.{bytes_of, record_of, data_of, placed_by, base_behind, offset_of, type_of}
 use Rattle.std.proofs.lemmas.Bool.{and_parts}
 

@@ -3,14 +3,14 @@ use Rattle.std.proofs.Common.{◌≡◌, ℕ, ◌<◌, ◌≤◌, List, [], ◌�
 use Rattle.std.specs.Prelude.{map}
 use Rattle.std.proofs.lemmas.List.{length-map}
 use Rattle.image.specs.declared.rule_set.Rules.{Rules}
-use Rattle.ihex_read.specs.declared.tail.Tail.{Tail}
-use Rattle.ihex_read.specs.declared.tail.Tail.TheVariants.{Second}
+use Rattle.image.specs.declared.tail.Tail.{Tail}
+use Rattle.image.specs.declared.tail.Tail.TheVariants.{Second}
 use Rattle.ihex_read.specs.declared.fault.HexFault.{HexFault}
 use Rattle.ihex_read.specs.declared.fault.HexError.{HexError}
 use Rattle.ihex_read.specs.declared.fault.HexError.TheVariants.{Bad, Memory}
 use Rattle.ihex_read.specs.ImageText.{Ends, FirstFault, of_line, no_end, trailing}
-use Rattle.ihex_read.specs.Lines.{without_return, last_line, lines_behind, lines_of}
-use Rattle.ihex_read.specs.Reading.{feeds_of, HasEnded, FaultsWithin, TellsFront}
+use Rattle.text_lines.specs.Lines.{feeds_of, without_return, last_line, lines_behind, lines_of}
+use Rattle.ihex_read.specs.Reading.{HasEnded, FaultsWithin, TellsFront}
 use Rattle.ihex_read.proofs.PieceLemmas.{pieces_of, lines_of-joined, lines_of-joined_end, feeds_of-joined, feeds_of-joined_end}
 use Rattle.ihex_read.proofs.TextLemmas.{no_end_behind_fault, no_end_among_open}
 

@@ -10,7 +10,7 @@ use Rattle.std.proofs.Math.Seq.{take-suc}
 use Rattle.ihex_read.specs.declared.fault.HexFault.TheVariants.{OutOfRange, Clash, Misplaced, NoReset}
 use Rattle.image.specs.declared.rule_set.Rules.{Rules}
 use Rattle.image.specs.declared.rule_set.Rules.TheVariants.{Msp430, Mcs51}
-use Rattle.ihex_read.specs.declared.tail.Tail.{Tail}
+use Rattle.image.specs.declared.tail.Tail.{Tail}
 use Rattle.image.specs.Image.{byte_at}
 use Rattle.ihex_read.specs.ImageText.{base_of, placed_of, has, alone_faults, placing_faults, fault_of, is_misplaced, is_end, lacks_reset, IsOpen, Denotes}
 use Rattle.image.specs.Kept.{lies_in, lies_in_mirror, Suits, IsReadUnder}

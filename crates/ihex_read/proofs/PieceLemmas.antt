@@ -7,8 +7,7 @@ use Rattle.std.proofs.lemmas.List.{append-nil}
 use Rattle.std.proofs.lemmas.List.Quantifiers.{position-Some}
 use Rattle.std.proofs.lemmas.List.Sums.{sum_by-append, fails_before_first}
 use Rattle.std.proofs.lemmas.List.Elements.{All-nil, All-cons, All-head, All-tail}
-use Rattle.ihex_read.specs.Lines.{without_return, last_line, lines_behind, lines_of}
-use Rattle.ihex_read.specs.Reading.{feeds_of}
+use Rattle.text_lines.specs.Lines.{feeds_of, without_return, last_line, lines_behind, lines_of}
 use Rattle.ihex_read.specs.Stages.{joined, IsCut}
 
 abbrev pub IsUnbroken : List ℕ → Type 0

@@ -5,13 +5,13 @@ use Rattle.std.proofs.lemmas.List.{append-nil, take-append-drop, take_rest, take
 use Rattle.std.proofs.lemmas.List.Elements.{All-push}
 use Rattle.std.proofs.Math.Seq.{take-add, take-append_seam}
 use Rattle.image.specs.declared.rule_set.Rules.{Rules}
-use Rattle.ihex_read.specs.declared.tail.Tail.{Tail}
-use Rattle.ihex_read.specs.declared.tail.Tail.TheVariants.{Blank, Second}
+use Rattle.image.specs.declared.tail.Tail.{Tail}
+use Rattle.image.specs.declared.tail.Tail.TheVariants.{Blank, Second}
 use Rattle.ihex_read.specs.declared.fault.HexFault.{HexFault}
 use Rattle.ihex_read.specs.ImageText.{is_end, IsOpen, Ends, FirstFault, of_line, no_end, trailing}
-use Rattle.ihex_read.specs.Lines.{without_return, last_line, lines_of}
+use Rattle.text_lines.specs.Lines.{feeds_of, without_return, last_line, lines_of}
 use Rattle.ihex_read.specs.declared.fault.HexError.{HexError}
-use Rattle.ihex_read.specs.Reading.{feeds_of, HasEnded, FaultsWithin, TellsFront}
+use Rattle.ihex_read.specs.Reading.{HasEnded, FaultsWithin, TellsFront}
 use Rattle.ihex_read.specs.Stages.{joined, IsCut, IsUsed, IsGoing, IsOver, Stands, GoesOn, next_fault, HasRead}
 use Rattle.ihex_read.proofs.FrontLemmas.{front_cut, has_ended_more, end_stays, tells_more, none_behind_end}
 use Rattle.ihex_read.proofs.LawLemmas.{not_blank}

@@ -4,8 +4,8 @@ use Rattle.std.specs.Prelude.{not, Option, None, Some}
 use Rattle.std.proofs.lemmas.Bool.Decides.{nat_tests}
 use Rattle.std.proofs.lemmas.List.Elements.{All-nil, All-push}
 use Rattle.image.specs.declared.rule_set.Rules.{Rules}
-use Rattle.ihex_read.specs.declared.tail.Tail.{Tail}
-use Rattle.ihex_read.specs.declared.tail.Tail.TheVariants.{Blank, Second}
+use Rattle.image.specs.declared.tail.Tail.{Tail}
+use Rattle.image.specs.declared.tail.Tail.TheVariants.{Blank, Second}
 use Rattle.ihex_read.specs.declared.fault.HexFault.{HexFault}
 use Rattle.ihex_read.specs.declared.fault.HexFault.TheVariants.{NoEnd, Trailing}
 use Rattle.ihex_read.specs.ImageText.{fault_of, is_end, Ends, IsTail, Denotes, FirstFault, of_line, no_end, trailing}

@@ -1,12 +1,12 @@
 -- A reader of a text in pieces, and what a text tells before it has ended.
-use Rattle.std.specs.Prelude.{◌==◌, ◌<◌, ◌≤◌, ℕ, List, length, count_by, Option}
+use Rattle.std.specs.Prelude.{◌<◌, ◌≤◌, ℕ, List, length, Option}
 use Rattle.image.specs.declared.rule_set.Rules.{Rules}
-use Rattle.ihex_read.specs.declared.tail.Tail.{Tail}
+use Rattle.image.specs.declared.tail.Tail.{Tail}
 use Rattle.ihex_read.specs.declared.fault.HexFault.{HexFault}
 use Rattle.ihex_read.specs.declared.fault.HexError.{HexError}
 use Rattle.ihex_read.specs.declared.fault.HexError.TheVariants.{Bad, Memory}
 use Rattle.ihex_read.specs.ImageText.{Ends, FirstFault}
-use Rattle.ihex_read.specs.Lines.{lines_of}
+use Rattle.text_lines.specs.Lines.{feeds_of, lines_of}
 
 -- what a reader asks of a text, the text that it has used, and the error that it answers from now on
 pub record Reading : Type 0 where
@@ -14,10 +14,6 @@ pub record Reading : Type 0 where
   pub tail : Tail
   pub text : List ℕ
   pub error : Option HexError
-
--- how many line feeds a text has: as many of its lines are whole
-abbrev pub feeds_of : List ℕ → ℕ
-feeds_of text = count_by (λ byte. byte == 10) text
 
 -- the end record's line is whole, with its line feed
 abbrev pub HasEnded : Rules → List ℕ → Type 0

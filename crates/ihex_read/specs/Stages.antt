@@ -1,15 +1,14 @@
 -- How far a text has been read: its whole lines, the line that has begun, and what the whole lines have made.
 use Rattle.std.specs.Prelude.{◌≡◌, ◌++◌, ◌∷◌, [], ◌≤◌, ℕ, Bool, true, false, List, map, flat_map, length, Option, None, Some, All}
 use Rattle.image.specs.declared.rule_set.Rules.{Rules}
-use Rattle.ihex_read.specs.declared.tail.Tail.{Tail}
-use Rattle.ihex_read.specs.declared.tail.Tail.TheVariants.{Blank, Second}
+use Rattle.image.specs.declared.tail.Tail.{Tail}
+use Rattle.image.specs.declared.tail.Tail.TheVariants.{Blank, Second}
 use Rattle.ihex_read.specs.declared.fault.HexFault.{HexFault}
 use Rattle.ihex_read.specs.declared.fault.HexFault.TheVariants.{Trailing}
 use Rattle.ihex_read.specs.declared.stage.Progress.{Progress}
 use Rattle.ihex_read.specs.ImageText.{fault_of, IsOpen, Ends, IsImage}
-use Rattle.ihex_read.specs.Lines.{without_return}
+use Rattle.text_lines.specs.Lines.{feeds_of, without_return}
 use Rattle.ihex_read.specs.Loading.{Made}
-use Rattle.ihex_read.specs.Reading.{feeds_of}
 
 -- each line with its line feed, and then a line without one
 abbrev pub joined : List (List ℕ) → List ℕ → List ℕ

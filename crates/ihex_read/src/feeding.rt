@@ -3,21 +3,20 @@
 ghost use Rattle.std.specs.Prelude.{◌≡◌, ◌++◌, ◌∷◌, ◌+◌, ◌<◌, ◌≤◌, ◌↔◌, ℕ, [], Some, None, Err, length, take, IfOk, IfErr, OnOk, OnErr, IsTrue};
 ghost use Rattle.ihex_read.specs.declared.fault.HexFault.{HexFault};
 ghost use Rattle.ihex_read.specs.declared.fault.HexError.{HexError};
-ghost use Rattle.ihex_read.specs.declared.tail.Tail.TheVariants.{Second};
+ghost use Rattle.image.specs.declared.tail.Tail.TheVariants.{Second};
 ghost use Rattle.ihex_read.specs.ImageText.{Denotes};
 ghost use Rattle.image.specs.Kept.{IsRamRange, IsReadUnder};
-ghost use Rattle.ihex_read.specs.Lines.{lines_of};
-ghost use Rattle.ihex_read.specs.Reading.{feeds_of, HasEnded, FaultsWithin, TellsFront, TellsWhole};
+ghost use Rattle.text_lines.specs.Lines.{feeds_of, lines_of};
+ghost use Rattle.ihex_read.specs.Reading.{HasEnded, FaultsWithin, TellsFront, TellsWhole};
 
 use crate::fault::HexError;
-use crate::lines::{line_feed, without_return};
 use crate::stage::Progress;
-use crate::tail::Tail;
-use image::{Image, Rules};
+use image::{Image, Rules, Tail};
 use no_memory::Memory;
 use std::alloc::Global;
 use std::marker::Model;
 use std::snapshot::Snapshot;
+use text_lines::{line_feed, without_return};
 
 /// The longest text that a reader takes, in bytes.
 pub const MOST_BYTES: usize = 4_194_304;

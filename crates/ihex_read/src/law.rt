@@ -3,12 +3,12 @@
 ghost use Rattle.std.specs.Prelude.{◌≡◌, ◌⊎◌, ◌++◌, ℕ, All, List, Option, length};
 ghost use Rattle.ihex_read.specs.declared.fault.HexFault.{HexFault};
 ghost use Rattle.image.specs.declared.rule_set.Rules.{Rules};
-ghost use Rattle.ihex_read.specs.declared.tail.Tail.{Tail};
-ghost use Rattle.ihex_read.specs.declared.tail.Tail.TheVariants.{Second};
+ghost use Rattle.image.specs.declared.tail.Tail.{Tail};
+ghost use Rattle.image.specs.declared.tail.Tail.TheVariants.{Second};
 ghost use Rattle.image.specs.Image.{IsByte};
 ghost use Rattle.ihex_read.specs.ImageText.{Denotes, FirstFault, GoesOnBehind};
 ghost use Rattle.image.specs.Kept.{IsReadUnder};
-ghost use Rattle.ihex_read.specs.Lines.{lines_of};
+ghost use Rattle.text_lines.specs.Lines.{lines_of};
 ghost use Rattle.ihex_read.specs.Reading.{FaultsWithin, HasEnded};
 
 /// Every list of lines has an image or a first fault, or goes on behind the end record's line where a second text is expected;

@@ -20,20 +20,14 @@
 mod fault;
 mod feeding;
 mod law;
-mod lines;
 mod loading;
 mod placing;
 mod record;
 mod stage;
-mod tail;
-mod word;
 
 pub use fault::{HexError, HexFault};
 pub use feeding::{MOST_BYTES, Reader};
-pub use image::{Image, Rules};
+pub use image::{Image, Rules, Tail};
 pub use law::{
     ended_texts_stay, image_or_fault, images_have_bytes, images_keep_rules, whole_faults_stay,
 };
-pub use lines::without_return;
-pub use tail::Tail;
-pub use word::word_of_digits;

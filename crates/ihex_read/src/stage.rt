@@ -1,7 +1,7 @@
 //! How far the lines of a text have come.
 
 ghost use Rattle.std.specs.Prelude.{◌≡◌, ◌<◌, ◌^◌, ◌++◌, ◌∷◌, [], List, ℕ, length, IfOk, IfErr, OnOk, OnErr};
-ghost use Rattle.ihex_read.specs.declared.tail.Tail.{Tail};
+ghost use Rattle.image.specs.declared.tail.Tail.{Tail};
 ghost use Rattle.std.specs.Result.{result_err};
 ghost use Rattle.ihex_read.specs.ImageText.{Denotes};
 ghost use Rattle.ihex_read.specs.Reading.{TellsWhole};

@@ -10,10 +10,10 @@ use Rattle.ihex_read.specs.declared.fault.HexFault.{HexFault}
 use Rattle.image.specs.Kept.{lies_in}
 use Rattle.image.specs.declared.rule_set.Rules.{Rules}
 use Rattle.image.specs.declared.rule_set.Rules.TheVariants as rules
-use Rattle.ihex_read.specs.declared.tail.Tail.{Tail}
-use Rattle.ihex_read.specs.declared.tail.Tail.TheVariants.{Blank}
+use Rattle.image.specs.declared.tail.Tail.{Tail}
+use Rattle.image.specs.declared.tail.Tail.TheVariants.{Blank}
 use Rattle.ihex_read.specs.ImageText.{Denotes, Ends, FirstFault, of_line, no_end, trailing, GoesOnBehind, fault_of, has_byte, is_end, lacks_reset, placed_of}
-use Rattle.ihex_read.specs.Lines.{lines_of}
+use Rattle.text_lines.specs.Lines.{lines_of}
 use Rattle.made_programs.specs.Chips.{rules_of}
 use Rattle.made_programs.proofs.Accepted.{IsFree, IsLaid, laid_none, laid_below, placed_more}
 use Rattle.image_gen.specs.LengthFacts.{length-mcs51_program, length-msp430_program}

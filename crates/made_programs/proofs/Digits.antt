@@ -6,7 +6,7 @@ use Rattle.std.proofs.lemmas.Bool.{and_parts, and_from, ne_eqb}
 use Rattle.std.proofs.lemmas.List.Elements.{All-head, All-tail}
 use Rattle.hex.specs.Hex.{encode_with, encode_upper, is_hex_digit, hex_digit_value, upper_digits}
 use Rattle.hex.proofs.HexLemmas.{IsDigits, IsDigits-upper_digits, length-encode_with}
-use Rattle.ihex_read.specs.Lines.{lines_behind, lines_of, without_return}
+use Rattle.text_lines.specs.Lines.{lines_behind, lines_of, without_return}
 use Rattle.ihex_read.specs.Record.{bytes_of}
 
 abbrev pub AreBytes : List ℕ → Type 0

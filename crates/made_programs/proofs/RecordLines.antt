@@ -7,7 +7,7 @@ use Rattle.hex.specs.Hex.{encode_upper}
 use Rattle.image_gen.specs.Records.{checksum_of, front_of, record_line}
 use Rattle.ihex_read.specs.declared.fault.HexFault.TheVariants.{NoColon, BadDigit, BadLength, BadSum, BadType, BadTypeLength}
 use Rattle.ihex_read.specs.ImageText.{has_alone, is_end}
-use Rattle.ihex_read.specs.Lines.{lines_of}
+use Rattle.text_lines.specs.Lines.{lines_of}
 use Rattle.ihex_read.specs.Record.{record_of, is_miscounted, length_of, type_of, data_of, base_behind, placed_by}
 use Rattle.made_programs.proofs.Digits.{AreBytes, are_digits, bytes_back, length-digits, one_line}
 

@@ -4,7 +4,7 @@ use Rattle.std.proofs.lemmas.List.Elements.{All-take, All-drop}
 use Rattle.image_gen.specs.Records.{each, end_line, record_of, stretch_lines}
 use Rattle.image.specs.declared.rule_set.Rules.{Rules}
 use Rattle.ihex_read.specs.ImageText.{Ends, fault_of, lacks_reset, placed_of}
-use Rattle.ihex_read.specs.Lines.{lines_of}
+use Rattle.text_lines.specs.Lines.{lines_of}
 use Rattle.made_programs.proofs.Accepted.{IsFree, IsLaid, laid_below, laid_more}
 use Rattle.made_programs.proofs.Digits.{AreBytes}
 use Rattle.made_programs.proofs.RecordLines.{IsRow, line_at, line_found}

@@ -1,9 +1,9 @@
 //! What the texts of made programs have.
 
 ghost use Rattle.std.specs.Prelude.{ℕ, ◌≤◌, List, Option, length};
-ghost use Rattle.ihex_read.specs.declared.tail.Tail.TheVariants.{Blank};
+ghost use Rattle.image.specs.declared.tail.Tail.TheVariants.{Blank};
 ghost use Rattle.ihex_read.specs.ImageText.{Denotes};
-ghost use Rattle.ihex_read.specs.Lines.{lines_of};
+ghost use Rattle.text_lines.specs.Lines.{lines_of};
 ghost use Rattle.image.specs.declared.chip_name.ChipName.{ChipName as AChipName};
 ghost use Rattle.image_gen.specs.Made.{made_image};
 ghost use Rattle.made_programs.specs.Chips.{rules_of};

@@ -1,5 +1,5 @@
 -- What the formats of instructions and steps may lead to, as relations in which no choices stand: each point that is free is
--- any number that it may be. A step of `Step.antt` by any choices leads to what these say (`formats_lead`, `steps_lead`).
+-- any number that it may be. A step of `Step.antt` by any choices leads to what these say (`formats_lead`, `step_laws`).
 use Rattle.std.specs.Prelude.{◌≡◌, ℕ, ◌+◌, ◌-◌, ◌*◌, ◌%◌, ◌<◌, Bool, true, false, Option, None, Some, Err, List, [], ◌∷◌, ◌++◌, Contains, slice_index}
 use Rattle.mcs51_decode.specs.declared.instr.Instr.{Instr}
 use Rattle.mcs51_decode.specs.declared.instr.External.{External as AnExternal}

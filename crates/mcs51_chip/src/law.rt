@@ -1,39 +1,25 @@
 //! What holds of all steps.
 
-ghost use Rattle.std.specs.Prelude.{◌≡◌, ◌++◌, ◌-◌, ◌<◌, ◌≤◌, ℕ, All, IsSome, List, Option, Some, length, slice_index};
+ghost use Rattle.std.specs.Prelude.{◌≡◌, ◌-◌, ◌<◌, ◌≤◌, ℕ, All, IsSome, List, Option, Some, length, slice_index};
 ghost use Rattle.image.specs.Image.{IsByte};
-ghost use Rattle.chip_numbers.specs.Single.{Single};
 ghost use Rattle.mcs51_decode.specs.declared.instr.Instr.{Instr as AnInstr};
 ghost use Rattle.mcs51_decode.specs.declared.refusal.NoInstr.TheVariants.{Excluded, OffImage};
 ghost use Rattle.mcs51_decode.specs.Standing.{HasExcluded, Lacks, Stands};
-ghost use Rattle.choosing.specs.Gives.{Gives};
-ghost use Rattle.choosing.specs.Outcome.Outcome.{Next, Wild};
+ghost use Rattle.choosing.specs.Outcome.Outcome.{Wild};
 ghost use Rattle.mcs51_chip.specs.declared.state.ChipState.{ChipState as AState};
 ghost use Rattle.mcs51_chip.specs.Interrupts.{coming};
-ghost use Rattle.mcs51_chip.specs.Leading.{MayLead};
-ghost use Rattle.mcs51_chip.specs.State.{IsChipState, IsReset, first_state};
+ghost use Rattle.mcs51_chip.specs.State.{IsReset, first_state};
 ghost use Rattle.mcs51_chip.specs.Step.{Outcome, Step, entered, executed, interrupt_option, step_of};
-ghost use Rattle.mcs51_chip.specs.Laws.{FormatsLead};
+ghost use Rattle.mcs51_chip.specs.Laws.{FormatsLead, StepLaws};
 
-use mcs51_decode::decoded_is_the_answer;
+use mcs51_decode::decoding_laws;
 
-/// A step needs a front of the choices and leaves the others, and no list of choices has two fronts with a step.
-pub fn one_front()
-    ensures front { (image : List (Option ℕ)) (s : AState) (choices rest : List ℕ) (outcome : Outcome) →
-        step_of image s choices ≡ Some (outcome, rest) → (front : List ℕ) × (choices ≡ front ++ rest) × Step image s front outcome }
-    ensures onward { (image : List (Option ℕ)) (s : AState) (front rest : List ℕ) (outcome : Outcome) →
-        Step image s front outcome → step_of image s (front ++ rest) ≡ Some (outcome, rest) }
-    ensures one { (image : List (Option ℕ)) (s : AState) (front other rest more : List ℕ) (outcome another : Outcome) →
-        front ++ rest ≡ other ++ more → Step image s front outcome → Step image s other another →
-        (front ≡ other) × (outcome ≡ another) }
-{}
-
-/// A step keeps the form of states, where the image has 65536 places, each with a byte or with none.
-pub fn steps_keep_form()
-    ensures { (image : List (Option ℕ)) (s t : AState) (choices : List ℕ) (items : List Single) → length image ≡ 65536 → All IsByte image →
-        IsChipState s → Step image s choices (Next items t) → IsChipState t }
+/// What a step leads to, as a relation in which no choices stand (`specs/Leading.antt`). It needs a front of the choices and
+/// leaves the others, and no list of choices has two fronts with a step. It keeps the form of states.
+pub fn step_laws()
+    ensures { StepLaws }
 {
-    decoded_is_the_answer();
+    decoding_laws();
 }
 
 /// Three choices are enough for any step, and each step is taken by choices of 16 bits.
@@ -66,18 +52,10 @@ pub fn the_table_decides()
         interrupt_option s choices ≡ Some (option, left) → 0 < option →
         step_of image s choices ≡ Some (entered s (slice_index (coming s) (option - 1)), left) }
 {
-    decoded_is_the_answer();
+    decoding_laws();
 }
 
 /// What the formats of instructions come to, as relations in which no choices stand (`specs/Leading.antt`).
 pub fn formats_lead()
     ensures { FormatsLead }
 {}
-
-/// What a step leads to, as a relation in which no choices stand.
-pub fn steps_lead()
-    ensures { (image : List (Option ℕ)) (s : AState) →
-        length image ≡ 65536 → All IsByte image → Gives (MayLead image s) (step_of image s) }
-{
-    decoded_is_the_answer();
-}

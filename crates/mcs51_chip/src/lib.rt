@@ -10,13 +10,12 @@
 //!
 //! Of all states and choices:
 //!
-//! - [`one_front`]: each list of choices has at most one front with a step.
+//! - [`step_laws`]: what a step leads to, without choices (`specs/Leading.antt`). Each list of choices has at most one front
+//!   with a step, and steps keep the form of states.
 //! - [`steps_are_taken`]: three choices are enough for a step, and choices of 16 bits take each step.
 //! - [`a_reset_exists`]: there is a state behind a reset.
 //! - [`the_table_decides`]: the instruction that stands at PC by the instruction table is the one that runs.
-//! - [`steps_keep_form`]: steps keep the form of states.
-//! - [`formats_lead`], [`steps_lead`]: what the formats of instructions and steps lead to, without choices
-//!   (`specs/Leading.antt`).
+//! - [`formats_lead`]: what the formats of instructions lead to, without choices.
 #![tactic(auto)]
 
 mod finding;
@@ -25,9 +24,6 @@ mod place;
 mod state;
 
 pub use finding::{bit_address, direct_address, sfr_at};
-pub use law::{
-    a_reset_exists, formats_lead, one_front, steps_are_taken, steps_keep_form, steps_lead,
-    the_table_decides,
-};
+pub use law::{a_reset_exists, formats_lead, step_laws, steps_are_taken, the_table_decides};
 pub use place::{Access, Address, Sfr};
 pub use state::ChipState;

@@ -25,7 +25,7 @@ use Rattle.mcs51_control.specs.Returning.{call_accesses, goes_back, interrupt_re
 -- The state that RET, or RETI, leaves stands under what is said, at one of the targets, and its reads are shown. Where RETI
 -- goes back, it is in the frame of an interrupt that came at a known stack pointer, and goes on where that came. What is
 -- said is in form.
-pub record ReturnsHold : Type 0 where
+pub record ReturnLaws : Type 0 where
   pub returned : (framed : Bool) (a : Known) (s : ChipState) (first : Option ChipState) → IsUnder framed a s first
       → IsUnder framed (returned_known a) (chip.returned s) first
   pub interrupt : (framed : Bool) (a : Known) (s : ChipState) (first : Option ChipState) → IsUnder framed a s first

@@ -1,14 +1,14 @@
 //! What holds of calls, returns and jumps.
 
-ghost use Rattle.mcs51_control.specs.Laws.{ReturnsHold, TransfersDo};
+ghost use Rattle.mcs51_control.specs.Laws.{ReturnLaws, TransfersDo};
 
 use mcs51_results::instruction_laws;
 
 /// The state that RET, or RETI, leaves stands under what is said, at one of the targets, and its reads are shown. Where RETI
 /// goes back, it is in the frame of an interrupt that came at a known stack pointer, and goes on where that came. What is
 /// said is in form.
-pub fn returns_hold()
-    ensures { ReturnsHold }
+pub fn return_laws()
+    ensures { ReturnLaws }
 {
     instruction_laws();
 }

@@ -5,13 +5,13 @@
 //! - [`show_call`] and [`show_return`]: the accesses to show.
 //!
 //! Each is exact by a formula of `specs/Returning.antt`. What a call leaves is a push of `mcs51_state`. The laws are functions
-//! that do nothing: [`returns_hold`], and [`transfers_do`], that each instruction does what is said of it.
+//! that do nothing: [`return_laws`], and [`transfers_do`], that each instruction does what is said of it.
 #![tactic(auto)]
 
 mod laws;
 mod returning;
 
-pub use laws::{returns_hold, transfers_do};
+pub use laws::{return_laws, transfers_do};
 pub use returning::{
     goes_back, return_from, return_from_interrupt, return_targets, show_call, show_return,
 };

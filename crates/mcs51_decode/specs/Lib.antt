@@ -4,4 +4,5 @@ pub mod Standing
 pub mod Decoding
 pub mod Targets
 pub mod Fitting
+pub mod Laws
 pub mod NumberFacts

@@ -1,14 +1,15 @@
 //! What holds of all bytes and images.
 
-ghost use Rattle.std.specs.Prelude.{◌≡◌, ◌<◌, ◌+◌, ◌++◌, ℕ, All, List, [], ◌∷◌, take, Option, Result, Ok, Some, length, false};
+ghost use Rattle.std.specs.Prelude.{◌≡◌, ◌<◌, ◌+◌, ◌++◌, ℕ, All, List, [], ◌∷◌, take, Option, Result, Some, length, false};
 ghost use Rattle.image.specs.Image.{IsByte};
 ghost use Rattle.mcs51_decode.specs.declared.instr.Instr.{Instr};
 ghost use Rattle.mcs51_decode.specs.declared.refusal.NoInstr.{NoInstr};
 ghost use Rattle.mcs51_decode.specs.Table.{Row, is_excluded, length_at, row_at};
 ghost use Rattle.mcs51_decode.specs.Encoding.{bytes_of, length_of};
 ghost use Rattle.mcs51_decode.specs.Fitting.{IsInstr};
-ghost use Rattle.mcs51_decode.specs.Decoding.{decoded, instr_of_bytes};
-ghost use Rattle.mcs51_decode.specs.Standing.{Decodes, AreThere, upward};
+ghost use Rattle.mcs51_decode.specs.Decoding.{instr_of_bytes};
+ghost use Rattle.mcs51_decode.specs.Laws.{DecodingLaws};
+ghost use Rattle.mcs51_decode.specs.Standing.{Decodes};
 
 /// Bytes are at most one instruction, and are the bytes of that instruction, as many as its length says; none goes on
 /// behind the bytes of another.
@@ -42,15 +43,8 @@ pub fn one_of_three()
 
 /// The decoder's answer as a function is the answer at each address, and no other is: an instruction of the table with
 /// its length and its bytes, or a refusal.
-pub fn decoded_is_the_answer()
-    ensures answer { (image : List (Option ℕ)) (pc : ℕ) → length image ≡ 65536 → All IsByte image →
-        Decodes image pc (decoded image pc) }
-    ensures one { (image : List (Option ℕ)) (pc : ℕ) (answer : Result (Instr × ℕ) NoInstr) →
-        length image ≡ 65536 → All IsByte image → Decodes image pc answer → answer ≡ decoded image pc }
-    ensures instruction { (image : List (Option ℕ)) (pc len : ℕ) (instr : Instr) →
-        length image ≡ 65536 → All IsByte image →
-        decoded image pc ≡ Ok (instr, len) →
-        Row (bytes_of instr) instr × (len ≡ length_of instr) × AreThere (upward image pc) 0 (bytes_of instr) }
+pub fn decoding_laws()
+    ensures { DecodingLaws }
 {}
 
 /// The instruction of some bytes as a function is the one whose row they are, and there is none where they are no row. An

@@ -19,8 +19,8 @@
 //! - [`Instr::length`] is the number of these bytes. [`Instr::target`] says where a jump or a call goes.
 //! - [`one_instruction`], [`one_row_an_opcode`] and [`one_of_three`] are laws of the table: bytes are at most one
 //!   instruction, and that one's bytes; each opcode but one has instructions, all of one length; each address of an image
-//!   has exactly one of the three answers. [`decoded_is_the_answer`] and [`bytes_of_one_instruction`] say that the two
-//!   functions are what the table says.
+//!   has exactly one of the three answers. [`decoding_laws`] and [`bytes_of_one_instruction`] say that the two functions
+//!   are what the table says.
 //!
 //! No call takes memory.
 #![tactic(auto)]
@@ -42,7 +42,6 @@ pub use instr::{
     Source, Working,
 };
 pub use law::{
-    bytes_of_one_instruction, decoded_is_the_answer, one_instruction, one_of_three,
-    one_row_an_opcode,
+    bytes_of_one_instruction, decoding_laws, one_instruction, one_of_three, one_row_an_opcode,
 };
 pub use refusal::NoInstr;

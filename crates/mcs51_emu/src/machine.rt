@@ -7,7 +7,7 @@ ghost use Rattle.mcs51_emu.specs.Stepping.{IsStill, Steps};
 use crate::advance::advance;
 use crate::stepped::Stepped;
 use choosing::Choices;
-use mcs51_chip::{ChipState, a_reset_exists, one_front};
+use mcs51_chip::{ChipState, a_reset_exists, step_laws};
 use mcs51_decode::Image;
 
 /// A state of an MCS-51 that runs on.
@@ -54,7 +54,7 @@ impl Machine {
         let stepped = advance(image, &mut self.state, &mut unused);
         let count = unused.count();
         if matches!(stepped, Stepped::Met(_)) {
-            one_front();
+            step_laws();
             choices.leave(count);
         }
         stepped

@@ -20,7 +20,7 @@ use Rattle.mcs51_flow.specs.Doing.{IsWay}
 use Rattle.unit_ways.specs.Ways.{ways_of}
 use Rattle.mcs51_flow.specs.Chip.{LeadsTo}
 use Rattle.mcs51_flow.specs.Going.{onward_by}
-use Rattle.mcs51_flow.proofs.Premises.{Laws}
+use Rattle.mcs51_flow.proofs.LawsBelow.{Laws}
 
 -- FORMS
 
@@ -31,7 +31,7 @@ pub onward_formed : Laws → (framed leaves : Bool) (limit behind : ℕ) (way : 
     → IsOnward IsAddress (IsKnown framed) (onward_by way leaves limit behind)
 onward_formed laws framed true limit behind (Lands targets a) below form = form.1
 onward_formed laws framed false limit behind (Lands targets a) below form =
-    limited_is limit targets (onward.Lands targets a) (IsOnward IsAddress (IsKnown framed)) tt (λ to has. laws.sets.below to targets form.0 has, form.1)
+    limited_is limit targets (onward.Lands targets a) (IsOnward IsAddress (IsKnown framed)) tt (λ to has. laws.known.sets.below 65536 to targets form.0 has, form.1)
 onward_formed laws framed leaves limit behind (Goes target on jumped) below form = (below, form.0, form.1, form.2)
 
 -- a site that is left open has more targets than are followed

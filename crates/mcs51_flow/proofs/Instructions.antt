@@ -18,18 +18,18 @@ use Rattle.mcs51_state.specs.Known.{Known}
 use Rattle.mcs51_state.specs.Under.{IsUnder}
 use Rattle.mcs51_state.specs.Doing.{DoesSo, LandsSo}
 use Rattle.mcs51_flow.specs.Doing.{RunsSo}
-use Rattle.mcs51_flow.specs.InstrPremises.{Premises}
+use Rattle.mcs51_flow.proofs.KindLaws.{KindLaws}
 use Rattle.mcs51_flow.specs.Running.{behind_of, items_of, ran_from, ran_of, targets_of}
 
 -- one that goes on behind itself lands there
-onward : (laws : Premises) {framed : Bool} {first : Option ChipState} {items : List Item} {pc : ℕ} {a behind : Known} {s : ChipState} {asking : Asking Effect}
+onward : (laws : KindLaws) {framed : Bool} {first : Option ChipState} {items : List Item} {pc : ℕ} {a behind : Known} {s : ChipState} {asking : Asking Effect}
     → IsUnder framed a s first
     → Gives (DoesSo framed first items pc behind s) asking → Gives (LandsSo framed first items pc (single s.pc) behind) asking
 onward laws {framed} {first} {items} {pc} {a} {behind} {s} {asking} under does =
     weaken (DoesSo framed first items pc behind s) (LandsSo framed first items pc (single s.pc) behind) asking
     (λ effect so. record { shown = so.shown; target = subst (Has 65536 (single s.pc)) (sym so.leads.onward) (laws.known.sets.single 65536 s.pc under.holds.state.pc).1; under = so.leads.under }) does
 
-nop_lands : (laws : Premises) (framed : Bool) (a : Known) (s : ChipState) (first : Option ChipState) (image : List (Option ℕ)) (pc : ℕ)
+nop_lands : (laws : KindLaws) (framed : Bool) (a : Known) (s : ChipState) (first : Option ChipState) (image : List (Option ℕ)) (pc : ℕ)
     → IsUnder framed a s first
     → Gives (LandsSo framed first [] pc (single s.pc) a) (effect_of image s Nop)
 unfolding effect_of
@@ -38,7 +38,7 @@ nop_lands laws framed a s first image pc under =
     (record { shown = λ access there. absurd (omega (arith, there.1)); target = (laws.known.sets.single 65536 s.pc under.holds.state.pc).1; under = under })
 
 -- in the state s, PC is the following address
-runs_from : (laws : Premises) (framed : Bool) (a : Known) (s : ChipState) (first : Option ChipState) (image : List (Option ℕ)) (pc : ℕ) (instr : Instr)
+runs_from : (laws : KindLaws) (framed : Bool) (a : Known) (s : ChipState) (first : Option ChipState) (image : List (Option ℕ)) (pc : ℕ) (instr : Instr)
     → IsUnder framed a s first → IsInstr instr → All IsImageByte image
     → Gives (RunsSo framed first pc (ran_from image framed pc s.pc a instr) s) (effect_of image s instr)
 unfolding ran_from items_of targets_of behind_of
@@ -82,7 +82,7 @@ runs_from laws framed a s first image pc (Pop direct) under is bytes = onward la
 runs_from laws framed a s first image pc (Exchange m) under is bytes = onward laws under (laws.moves.exchange framed a s first image pc m under is)
 runs_from laws framed a s first image pc (ExchangeDigit i) under is bytes = onward laws under (laws.moves.exchange_digit framed a s first image pc i under)
 
-pub instruction_runs : (laws : Premises) (framed : Bool) (a : Known) (s : ChipState) (first : Option ChipState) (image : List (Option ℕ)) (pc : ℕ) (instr : Instr)
+pub instruction_runs : (laws : KindLaws) (framed : Bool) (a : Known) (s : ChipState) (first : Option ChipState) (image : List (Option ℕ)) (pc : ℕ) (instr : Instr)
     → IsUnder framed a s first → IsInstr instr → All IsImageByte image
     → Gives (RunsSo framed first pc (ran_of image framed pc a instr) (going_to (following pc instr) s)) (effect_of image (going_to (following pc instr) s) instr)
 instruction_runs laws framed a s first image pc instr under is bytes =

@@ -46,7 +46,7 @@ use Rattle.mcs51_flow.specs.Chip.{IsSetting, entry_items, mcs51_analysis, mcs51_
 use Rattle.mcs51_flow.specs.Going.{leaves_frame, onward_by}
 use Rattle.mcs51_flow.specs.Machine.{mcs51_machine}
 use Rattle.mcs51_flow.proofs.Arriving.{either_way}
-use Rattle.mcs51_flow.proofs.Premises.{Laws}
+use Rattle.mcs51_flow.proofs.LawsBelow.{Laws}
 use Rattle.mcs51_flow.proofs.Returning.{is_return, return_goes, return_lands}
 
 accesses_shown : (some : List Item) (pc : ℕ) (accesses : List Access) (item : Single) → AreShown some pc accesses

@@ -37,7 +37,7 @@ use Rattle.mcs51_flow.specs.Standing.{fetched}
 use Rattle.mcs51_flow.proofs.Arriving.{IsAddress, leaves_back, onward_formed}
 use Rattle.mcs51_flow.proofs.Landing.{AtLocation, entry_lands, run_lands}
 use Rattle.mcs51_flow.proofs.MarksLemmas.{stops_below}
-use Rattle.mcs51_flow.proofs.Premises.{Laws}
+use Rattle.mcs51_flow.proofs.LawsBelow.{Laws}
 use Rattle.mcs51_flow.proofs.Returning.{is_return}
 use Rattle.mcs51_flow.proofs.Stepping.{Comes, comes, framed_by, instr_found, location_breaks, told}
 use Rattle.mcs51_flow.proofs.Stepping.Comes.{entered, ran, refused}

@@ -1,9 +1,10 @@
 pub mod Arriving
 pub mod InstrForms
+pub mod KindLaws
 pub mod Landing
 pub mod Lawful
+pub mod LawsBelow
 pub mod MarksLemmas
-pub mod Premises
 pub mod Returning
 pub mod StackLemmas
 pub mod Stepping

@@ -13,7 +13,7 @@ use Rattle.mcs51_state.specs.Known.{Known}
 use Rattle.mcs51_jumps.specs.Jumps.{AreWays, Ways, ways_by_comparison, ways_by_counter, ways_on_bit, ways_on_condition}
 use Rattle.mcs51_flow.specs.declared.ran.Way.TheVariants.{Goes}
 use Rattle.mcs51_flow.specs.Doing.{IsWay}
-use Rattle.mcs51_flow.specs.InstrPremises.{Premises}
+use Rattle.mcs51_flow.proofs.KindLaws.{KindLaws}
 use Rattle.mcs51_flow.specs.Running.{behind_of, items_of, ran_from, ran_of, targets_of}
 
 some_form : (framed : Bool) (way : Option Known) → ((a : Known) → way ≡ Some a → IsKnown framed a) → IfSome way (IsKnown framed)
@@ -24,7 +24,7 @@ both_ways : (framed : Bool) (next rel : ℕ) (ways : Ways) → AreWays framed wa
     → IsWay framed (Goes (relative_target next rel) ways.on ways.jumped)
 both_ways framed next rel ways are = (target_below next rel, some_form framed ways.on are.on, some_form framed ways.jumped are.jumped)
 
-way_form : (laws : Premises) (framed : Bool) (a : Known) (image : List (Option ℕ)) (pc next : ℕ) (instr : Instr)
+way_form : (laws : KindLaws) (framed : Bool) (a : Known) (image : List (Option ℕ)) (pc next : ℕ) (instr : Instr)
     → next < 65536 → IsKnown framed a
     → IsInstr instr → All IsImageByte image
     → IsWay framed (ran_from image framed pc next a instr).way
@@ -69,7 +69,7 @@ way_form laws framed a image pc next (Pop direct) small form is bytes = ((laws.k
 way_form laws framed a image pc next (Exchange m) small form is bytes = ((laws.known.sets.single 65536 next small).0, laws.move_forms.exchange framed a m form is)
 way_form laws framed a image pc next (ExchangeDigit i) small form is bytes = ((laws.known.sets.single 65536 next small).0, laws.move_forms.exchange_digit framed a i form)
 
-pub instruction_form : (laws : Premises) (framed : Bool) (a : Known) (image : List (Option ℕ)) (pc : ℕ) (instr : Instr)
+pub instruction_form : (laws : KindLaws) (framed : Bool) (a : Known) (image : List (Option ℕ)) (pc : ℕ) (instr : Instr)
     → IsKnown framed a → IsInstr instr → All IsImageByte image
     → IsWay framed (ran_of image framed pc a instr).way
 instruction_form laws framed a image pc instr form is bytes = way_form laws framed a image pc (following pc instr) instr (omega arith) form is bytes

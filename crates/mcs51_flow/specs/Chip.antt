@@ -9,7 +9,7 @@ use Rattle.call_context.specs.declared.shown.Cause.TheVariants.{Fetch, Targets, 
 use Rattle.call_context.specs.declared.shown.Item.{Item}
 use Rattle.call_context.specs.declared.shown.Set.TheVariants.{B}
 use Rattle.call_context.specs.Nodes.{frame_of}
-use Rattle.chip_law.specs.Analysis.{Analysis}
+use Rattle.chip_analysis.specs.Analysis.{Analysis}
 use Rattle.chip_flow.specs.declared.going.Followed.{Followed}
 use Rattle.chip_flow.specs.Flow.{Flow}
 use Rattle.chip_flow.specs.Works.{work_of}

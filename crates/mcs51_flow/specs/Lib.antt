@@ -7,4 +7,4 @@ pub mod Marks
 pub mod Texts
 pub mod Running
 pub mod Doing
-pub mod InstrPremises
+pub mod Laws

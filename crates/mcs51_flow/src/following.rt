@@ -11,11 +11,11 @@ use crate::labels::effect_on_calls;
 use crate::ran::{Ran, Way};
 use crate::running::run;
 use call_context::{Frame, InstrBytes, Item, Sequence, Set};
+use chip_analysis::Work;
 use chip_flow::{CallEffect, Flow, Followed, Onward, add_handler};
-use chip_law::Work;
 use mcs51_control::goes_back;
 use mcs51_decode::{Instr, encode};
-use mcs51_entry::{Coming, add_entry_items, comings, entered, entries_hold, frame_of, handler_of};
+use mcs51_entry::{Coming, add_entry_items, comings, entered, entry_laws, frame_of, handler_of};
 use mcs51_resume::resume;
 use no_memory::Memory;
 use std::alloc::Global;
@@ -39,7 +39,7 @@ fn leaves_frame(frame: &Frame, at: &Abs, instr: &Instr) -> bool
 }
 
 /// Where an instruction goes on that has this address behind it.
-fn onward_by(way: Way<Abs>, leaves: bool, limit: u32, behind: u16) -> Onward<Abs>
+fn onward_by(way: Way<Kept>, leaves: bool, limit: u32, behind: u16) -> Onward<Kept>
     ensures { result ≡ going.onward_by way leaves limit behind }
 {
     match way {
@@ -137,7 +137,7 @@ impl Flow for Mcs51Chip {
         at: &Abs,
         coming: &Coming,
     ) -> Result<(), Memory> {
-        entries_hold();
+        entry_laws();
         add_entry_items(&mut work.items, pc, coming)?;
         let known = entered(alloc, at, pc, coming)?;
         add_handler(

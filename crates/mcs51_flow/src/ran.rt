@@ -1,6 +1,7 @@
 //! What an instruction makes of what is known of a state.
 
 use call_context::{Item, Sequence};
+use chip_flow::Kept;
 use entry_value::Cells;
 use mcs51_state::State;
 use std::marker::Model;
@@ -27,7 +28,8 @@ pub enum Way<A> {
 pub struct Ran<M: Cells> {
     /// Its accesses to memory.
     pub items: Sequence<Item>,
-    pub way: Way<State<M>>,
+    /// What is known stands behind pointers here, since it is moved often.
+    pub way: Way<Kept<State<M>>>,
 }
 
 impl<M: Cells> Model for Ran<M> {

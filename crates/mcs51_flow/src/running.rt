@@ -8,6 +8,7 @@ use crate::changing::pass;
 use crate::ran::{Ran, Way};
 use crate::showing::show;
 use call_context::{Item, Sequence};
+use chip_flow::Kept;
 use entry_value::Cells;
 use mcs51_control::return_targets;
 use mcs51_decode::{Image, Instr};
@@ -62,6 +63,7 @@ fn land<M: Cells>(
     let targets = targets_of(framed, pc, at, instr);
     let mut behind = at.copy(alloc)?;
     pass(image, framed, next, &mut behind, instr)?;
+    let behind = Kept::new(alloc, behind)?;
     Ok(Ran {
         items,
         way: Way::Lands { targets, behind },
@@ -69,14 +71,21 @@ fn land<M: Cells>(
 }
 
 /// A conditional jump, by its ways.
-fn fork<M: Cells>(target: u16, items: Sequence<Item>, ways: Ways<M>) -> Ran<M>
-    ensures { result ≡ running.forked target items ways }
+fn fork<M: Cells>(
+    alloc: Global,
+    target: u16,
+    items: Sequence<Item>,
+    ways: Ways<M>,
+) -> Result<Ran<M>, Memory>
+    ensures { IfOk result (λ ran. ran ≡ running.forked target items ways) }
 {
     let Ways { on, jumped } = ways;
-    Ran {
+    let on = Kept::if_known(alloc, on)?;
+    let jumped = Kept::if_known(alloc, jumped)?;
+    Ok(Ran {
         items,
         way: Way::Goes { target, on, jumped },
-    }
+    })
 }
 
 /// What an instruction at an address makes of what is known of a state.
@@ -94,25 +103,25 @@ pub fn run<M: Cells>(
     match *instr {
         Instr::JumpOn { condition, .. } => {
             let ways = ways_on_condition(alloc, at, condition)?;
-            Ok(fork(named_target(pc, instr), Sequence::new(alloc), ways))
+            fork(alloc, named_target(pc, instr), Sequence::new(alloc), ways)
         }
         Instr::JumpOnBit { test, bit, .. } => {
             let ways = ways_on_bit(alloc, framed, at, test, bit)?;
             let mut items = Sequence::new(alloc);
             show_bit(&mut items, pc, test, bit, &ways.jumped)?;
-            Ok(fork(named_target(pc, instr), items, ways))
+            fork(alloc, named_target(pc, instr), items, ways)
         }
         Instr::CompareJump { comparison, .. } => {
             let ways = ways_by_comparison(alloc, framed, at, comparison)?;
             let mut items = Sequence::new(alloc);
             show_comparison(&mut items, pc, at, comparison)?;
-            Ok(fork(named_target(pc, instr), items, ways))
+            fork(alloc, named_target(pc, instr), items, ways)
         }
         Instr::DecrementJump { counter, .. } => {
             let ways = ways_by_counter(alloc, framed, at, counter)?;
             let mut items = Sequence::new(alloc);
             show_counter(&mut items, pc, at, counter)?;
-            Ok(fork(named_target(pc, instr), items, ways))
+            fork(alloc, named_target(pc, instr), items, ways)
         }
         _ => land(alloc, image, framed, at, pc, instr),
     }

@@ -31,20 +31,20 @@ use Rattle.mcs51_state.specs.Giving.{of_one}
 use Rattle.mcs51_state.specs.Doing.{Goes, GoesSo}
 use Rattle.mcs51_state.specs.Accesses.{read_at, read_items}
 use Rattle.mcs51_jumps.specs.Jumps.{AreWays, comparison_items, operand_at, ways_by_comparison, working_set}
-use Rattle.mcs51_jumps.specs.Premises.{Premises}
+use Rattle.mcs51_jumps.proofs.PartLaws.{PartLaws}
 use Rattle.mcs51_jumps.proofs.Branching.{goes}
 use Rattle.mcs51_jumps.proofs.Operands.{operand_has, operand_is}
 
 -- WITH A CONSTANT
 
-constant_goes : (laws : Premises) (framed : Bool) (a : Known) (s : ChipState) (first : Option ChipState) (operand : Operand) (x value rel : ℕ)
+constant_goes : (laws : PartLaws) (framed : Bool) (a : Known) (s : ChipState) (first : Option ChipState) (operand : Operand) (x value rel : ℕ)
     → IsUnder framed a s first → IsOperand operand → IsNumberOf operand s x → value < 256
     → Goes framed first (relative_target s.pc rel) (comparison_cut operand value false a) (comparison_cut operand value true a) s (compared x value rel s)
 constant_goes laws framed a s first operand x value rel under is number small =
     let (way, cut, there) = laws.branch.ways.comparison framed a s first operand x value under is number small in
     goes laws framed first (λ taken. comparison_cut operand value taken a) (not (x == value)) way rel s (with_carry (bit_of (nat_lt x value)) s) cut refl there
 
-working_does : (laws : Premises) (framed : Bool) (a : Known) (s : ChipState) (first : Option ChipState) (pc : ℕ) (w : Working) (value rel : ℕ)
+working_does : (laws : PartLaws) (framed : Bool) (a : Known) (s : ChipState) (first : Option ChipState) (pc : ℕ) (w : Working) (value rel : ℕ)
     → IsUnder framed a s first → value < 256
     → Gives (GoesSo framed first (read_items pc a (InWorking w)) pc (relative_target s.pc rel) (comparison_cut (operand_at a (working_set a w)) value false a) (comparison_cut (operand_at a (working_set a w)) value true a) s)
     (reading s (pointer_reads s w) (working_address s w) (λ x. compared x value rel s))
@@ -53,43 +53,43 @@ working_does laws framed a s first pc w value rel under small =
     let at = working_addresses a w in
     of_one (GoesSo framed first (read_items pc a (InWorking w)) pc (relative_target s.pc rel) (comparison_cut operand value false a) (comparison_cut operand value true a) s)
     (MayRead s (working_address s w)) (λ x. (pointer_reads s w ++ reads (working_address s w), compared x value rel s)) (reading s (pointer_reads s w) (working_address s w) (λ x. compared x value rel s))
-    (laws.chip.reading s (pointer_reads s w) (working_address s w) (λ x. compared x value rel s))
+    (laws.instructions.chip.reading s (pointer_reads s w) (working_address s w) (λ x. compared x value rel s))
     (λ x may. record {
-      shown = laws.operands.sums.both (pointer_accesses pc a w) (read_at pc at) pc (pointer_reads s w) (reads (working_address s w)) (laws.operands.shown.pointer framed pc a s first under w)
-          (laws.operands.sums.read pc at (working_address s w) (laws.operands.stands.operand framed a s first under (InWorking w)) (laws.operands.stands.operand_form framed a under.form (InWorking w) tt));
+      shown = laws.instructions.operands.sums.both (pointer_accesses pc a w) (read_at pc at) pc (pointer_reads s w) (reads (working_address s w)) (laws.instructions.operands.shown.pointer framed pc a s first under w)
+          (laws.instructions.operands.sums.read pc at (working_address s w) (laws.instructions.operands.stands.operand framed a s first under (InWorking w)) (laws.instructions.operands.stands.operand_form framed a under.form (InWorking w) tt));
       goes = constant_goes laws framed a s first operand x value rel under (operand_is laws framed a w under.form) (operand_has laws framed a s first w x under may) small;
     })
 
 -- WITH A DIRECT BYTE
 
-direct_does : (laws : Premises) (framed : Bool) (a : Known) (s : ChipState) (first : Option ChipState) (pc direct rel : ℕ)
+direct_does : (laws : PartLaws) (framed : Bool) (a : Known) (s : ChipState) (first : Option ChipState) (pc direct rel : ℕ)
     → IsUnder framed a s first → direct < 256
     → Gives (GoesSo framed first (read_items pc a (Direct direct)) pc (relative_target s.pc rel) (Some (compared_with (read_byte framed a (direct_addresses direct)).set a))
     (Some (compared_with (read_byte framed a (direct_addresses direct)).set a)) s) (reading s [] (direct_address direct) (λ x. compared s.a x rel s))
 direct_does laws framed a s first pc direct rel under small =
     let at = direct_addresses direct in
     let set = (read_byte framed a at).set in
-    let stands = laws.operands.stands.operand framed a s first under (Direct direct) in
-    let are = laws.operands.stands.operand_form framed a under.form (Direct direct) small in
+    let stands = laws.instructions.operands.stands.operand framed a s first under (Direct direct) in
+    let are = laws.instructions.operands.stands.operand_form framed a under.form (Direct direct) small in
     of_one (GoesSo framed first (read_items pc a (Direct direct)) pc (relative_target s.pc rel) (Some (compared_with set a)) (Some (compared_with set a)) s)
     (MayRead s (direct_address direct)) (λ x. (reads (direct_address direct), compared s.a x rel s)) (reading s [] (direct_address direct) (λ x. compared s.a x rel s))
-    (laws.chip.reading s [] (direct_address direct) (λ x. compared s.a x rel s))
+    (laws.instructions.chip.reading s [] (direct_address direct) (λ x. compared s.a x rel s))
     (λ x may. record {
-      shown = laws.operands.sums.read pc at (direct_address direct) stands are;
+      shown = laws.instructions.operands.sums.read pc at (direct_address direct) stands are;
       goes = goes laws framed first (λ taken. Some (compared_with set a)) (not (s.a == x)) (compared_with set a) rel s (with_carry (bit_of (nat_lt s.a x)) s) refl refl
-          (laws.branch.ways.with_byte framed a s first set x under (laws.operands.reads.byte framed a s first under at (direct_address direct) x stands are may).0);
+          (laws.branch.ways.with_byte framed a s first set x under (laws.instructions.operands.reads.byte framed a s first under at (direct_address direct) x stands are may).0);
     })
 
 -- EACH
 
-pub comparison_does : (laws : Premises) (framed : Bool) (a : Known) (s : ChipState) (first : Option ChipState) (image : List (Option ℕ)) (pc : ℕ) (comparison : Comparison) (rel : ℕ)
+pub comparison_does : (laws : PartLaws) (framed : Bool) (a : Known) (s : ChipState) (first : Option ChipState) (image : List (Option ℕ)) (pc : ℕ) (comparison : Comparison) (rel : ℕ)
     → IsUnder framed a s first → IsComparison comparison
     → Gives (GoesSo framed first (comparison_items pc comparison a) pc (relative_target s.pc rel) (ways_by_comparison framed comparison a).on (ways_by_comparison framed comparison a).jumped s)
     (effect_of image s (CompareJump comparison rel))
 unfolding effect_of ways_by_comparison
 comparison_does laws framed a s first image pc (AccumulatorImmediate value) rel under small =
     answer_gives (GoesSo framed first [] pc (relative_target s.pc rel) (comparison_cut (One Accumulator) value false a) (comparison_cut (One Accumulator) value true a) s) ([], compared s.a value rel s)
-    (record { shown = laws.operands.sums.none [] pc; goes = constant_goes laws framed a s first (One Accumulator) s.a value rel under tt refl small })
+    (record { shown = laws.instructions.operands.sums.none [] pc; goes = constant_goes laws framed a s first (One Accumulator) s.a value rel under tt refl small })
 comparison_does laws framed a s first image pc (AccumulatorDirect direct) rel under small = direct_does laws framed a s first pc direct rel under small
 comparison_does laws framed a s first image pc (WorkingImmediate w value) rel under small = working_does laws framed a s first pc w value rel under small
 
@@ -102,7 +102,7 @@ with_form framed a set form =
     let none : IsCarry None = tt in
     assumption (form, bits, none)
 
-pub comparison_form : (laws : Premises) (framed : Bool) (a : Known) (comparison : Comparison) → IsKnown framed a → IsComparison comparison
+pub comparison_form : (laws : PartLaws) (framed : Bool) (a : Known) (comparison : Comparison) → IsKnown framed a → IsComparison comparison
     → AreWays framed (ways_by_comparison framed comparison a)
 unfolding ways_by_comparison
 comparison_form laws framed a (AccumulatorImmediate value) form small = record {

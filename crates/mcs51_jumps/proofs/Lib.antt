@@ -1,3 +1,4 @@
+pub mod PartLaws
 pub mod Numbers
 pub mod Branching
 pub mod ByCondition

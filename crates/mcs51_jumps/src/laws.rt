@@ -1,7 +1,6 @@
 //! What holds of instructions on CY and on bits, and of both ways of jumps.
 
 ghost use Rattle.mcs51_jumps.specs.BitLaws.{BitsDo, BitsKeepForm};
-ghost use Rattle.mcs51_jumps.specs.Premises.{Premises};
 ghost use Rattle.mcs51_jumps.specs.JumpLaws.{JumpsDo, JumpsKeepForm};
 
 use mcs51_branch::branch_laws;
@@ -21,9 +20,10 @@ pub fn bits_keep_form()
     instruction_laws();
 }
 
-/// The laws of cuts, operands, bits, writes and formats that those below rest on.
-fn premises_hold()
-    ensures { Premises }
+/// Where a state stands under what is known, the chip takes a conditional jump or goes on behind it, the state that it comes to
+/// stands under what is known on that way, and its accesses are shown.
+pub fn jumps_do()
+    ensures { JumpsDo }
 {
     instruction_laws();
     bits_do();
@@ -31,17 +31,12 @@ fn premises_hold()
     branch_laws();
 }
 
-/// Where a state stands under what is known, the chip takes a conditional jump or goes on behind it, the state that it comes to
-/// stands under what is known on that way, and its accesses are shown.
-pub fn jumps_do()
-    ensures { JumpsDo }
-{
-    premises_hold();
-}
-
 /// What is known on each way of a conditional jump is in form.
 pub fn jumps_keep_form()
     ensures { JumpsKeepForm }
 {
-    premises_hold();
+    instruction_laws();
+    bits_do();
+    bits_keep_form();
+    branch_laws();
 }

@@ -5,6 +5,7 @@ use crate::showing::is_access;
 use crate::states::{is_same, put_all, state_of};
 use abs_memory::CellList;
 use call_context::Frame;
+use chip_flow::Kept;
 use image::Image;
 use mcs51_control::goes_back;
 use mcs51_decode::{Instr, decode};
@@ -42,7 +43,7 @@ fn counter_of(words: &str) -> &str {
 
 /// Whether an instruction goes on at a place, in a state in which this is known; none, where it never does.
 fn goes_on(
-    way: &Way<State<CellList>>,
+    way: &Way<Kept<State<CellList>>>,
     following: u16,
     place: &str,
     wanted: &Option<State<CellList>>,
@@ -59,7 +60,7 @@ fn goes_on(
         },
     };
     match (found, wanted) {
-        (Some(found), Some(wanted)) => is_same(found, wanted),
+        (Some(found), Some(wanted)) => is_same(found.state(), wanted),
         (None, None) => true,
         _ => false,
     }
@@ -73,7 +74,9 @@ fn is_back(
     wanted: &State<CellList>,
 ) -> bool {
     match &ran.way {
-        Way::Lands { behind, .. } => goes_back(true, frame, at) && is_same(behind, wanted),
+        Way::Lands { behind, .. } => {
+            goes_back(true, frame, at) && is_same(behind.state(), wanted)
+        }
         Way::Goes { .. } => false,
     }
 }

@@ -11,7 +11,7 @@ use Rattle.mcs51_resume.specs.Resume.{resumed_known}
 
 -- What a handler left stands, where it goes on, under what `resumed_known` says, with the state that was suspended before. The
 -- stack pointer at which the interrupt came is one of those that are known there. What goes on is in form.
-pub record ResumptionsCover : Type 0 where
+pub record ResumptionLaws : Type 0 where
   pub covers : (framed : Bool) (a exit : Known) (f t : ChipState) (first : Option ChipState) (vector sp level : ℕ)
       → IsUnder framed a f first → IsUnder true exit t (Some f) → GoesOn (Irq vector (Some sp) level) t (Some f)
       → IsUnder framed (resumed_known framed a f.pc sp exit) t first

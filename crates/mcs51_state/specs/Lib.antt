@@ -13,6 +13,7 @@ pub mod Doing
 pub mod Giving
 pub mod Joined
 pub mod JoinedFacts
+pub mod Laws
 pub mod OperandLaws
 pub mod Operands
 pub mod Reading

@@ -34,11 +34,10 @@
 //!
 //! Each call is exact by a formula of `specs`, on `Known`. The laws are functions that do nothing. Of states:
 //!
-//! - [`states_are_ordered`]: being within another is an order. Two states are within their join, within the first one
-//!   widened by the second, and within the greatest.
-//! - [`states_keep_form`]: the first state and the greatest have the form, and joins and widenings keep it.
-//! - [`states_cover`]: what stands under a state stands under all that this is within, each state behind a reset under the
-//!   first one, and each state of the chip under the greatest.
+//! - [`state_laws`] (`specs/Laws.antt`): being within another is an order. Two states are within their join, within the
+//!   first one widened by the second, and within the greatest. The first state and the greatest have the form, and joins
+//!   and widenings keep it. What stands under a state stands under all that this is within, each state behind a reset
+//!   under the first one, and each state of the chip under the greatest.
 //!
 //! Of operands (`specs/OperandLaws.antt`), all of which [`operand_laws`] gives:
 //!
@@ -81,8 +80,7 @@ pub use flags::{set_carry, set_flags, set_status};
 pub use formats::{accesses_add_up, formats_do};
 pub use laws::{
     accesses_are_shown, flags_follow, jump_targets_hold, operand_laws, operands_stand, reads_hold,
-    stack_follows, states_are_ordered, states_cover, states_keep_form, store_laws,
-    stores_keep_form, writes_follow,
+    stack_follows, state_laws, store_laws, stores_keep_form, writes_follow,
 };
 pub use levels::Levels;
 pub use operands::{

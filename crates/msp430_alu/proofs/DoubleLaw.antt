@@ -43,7 +43,7 @@ use Rattle.msp430_alu.specs.Formats.{constant_of, relation_of, counter_set, is_d
 use Rattle.msp430_results.specs.Words.{values_of, written_word}
 use Rattle.msp430_alu.specs.Memory.{IsDevice}
 use Rattle.msp430_alu.specs.Operands.{source_reach, destination_reach, grown_known, operand_word, IsReached}
-use Rattle.msp430_alu.specs.Premises.{Premises}
+use Rattle.msp430_results.specs.InstructionLaws.{InstructionLaws}
 use Rattle.msp430_alu.specs.Registers.{with_flag_bits}
 use Rattle.msp430_results.specs.Results.{double_made, twice_flags}
 use Rattle.msp430_alu.specs.NumberFacts.{single_is}
@@ -72,14 +72,14 @@ no_free : (width : Width) (stands : Place) (bits y : ℕ) → is_status stands �
 no_free Words stands bits y none = cond-false (is_status stands) (y + 512 * bits) y none
 no_free Byte stands bits y none = refl
 
-zero_operand : (laws : Premises) (first : Option Suspended) (width : Width)
+zero_operand : (laws : InstructionLaws) (first : Option Suspended) (width : Width)
     → IsOperand first width (record { set = single 0; entry = None }) 0
 zero_operand laws first Words = let is = single_is laws.known 65536 0 (omega arith) in record { values = is; holds = λ e. (is.has, tt) }
 zero_operand laws first Byte =
     let is = single_is laws.known 65536 0 (omega arith) in
     record { values = record { normal = laws.known.bits.low_normal (single 0) is.normal; has = laws.known.bits.low 0 (single 0) is.normal is.has }; holds = λ e. absurd (cc) }
 
-target_held : (laws : Premises) {device : Device} {framed : Bool} {a : Known} {counted : Form} {first : Option ChipState} {registers ram : List ℕ}
+target_held : (laws : InstructionLaws) {device : Device} {framed : Bool} {a : Known} {counted : Form} {first : Option ChipState} {registers ram : List ℕ}
     → IsOnTheWay device framed a counted first registers ram
     → IsDevice device → (reads : Bool) (width : Width) (reach : Reach) (stands : Place) (y bits : ℕ)
     → IsReached reach stands → is_status stands ≡ false
@@ -103,7 +103,7 @@ pub record AreOperands (first : Option Suspended) (device : Device) (ram registe
   pub held : MayStandIf (reads_destination done) device ram (grown registers width origin) width (destination_place pc len (grown registers width origin) target) y
 
 -- ADD of a register to itself has one value twice
-doubled_row : (laws : Premises) {first : Option Suspended} {device : Device} {ram registers : List ℕ} {pc len : ℕ} (done : Operation) {width : Width} (origin : Source)
+doubled_row : (laws : InstructionLaws) {first : Option Suspended} {device : Device} {ram registers : List ℕ} {pc len : ℕ} (done : Operation) {width : Width} (origin : Source)
     (target : Destination) {one other : Word} {x y bits : ℕ} (carry : ℕ) (made_so : Made)
     → is_doubled done origin target ≡ true → AreOperands first device ram registers pc len done width origin target one other x y bits
     → MayMake done width (with_free_bits width (source_place pc registers origin) bits x)
@@ -119,7 +119,7 @@ doubled_row laws {registers} operation.Add {width} (source.Register register) (d
     (laws.results.twice width (At second y) (values_of width other) are.target_so.values)
 doubled_row laws done origin target carry made_so e are may = absurd (cc)
 
-pub made_holds : (laws : Premises) {first : Option Suspended} {device : Device} {ram registers : List ℕ} {pc len : ℕ} {done : Operation} {width : Width} {origin : Source}
+pub made_holds : (laws : InstructionLaws) {first : Option Suspended} {device : Device} {ram registers : List ℕ} {pc len : ℕ} {done : Operation} {width : Width} {origin : Source}
     {target : Destination} {one other : Word} {x y bits : ℕ} (carry : ℕ) (c : Tri) (made_so : Made)
     → IsBit c carry → AreOperands first device ram registers pc len done width origin target one other x y bits
     → MayMake done width (with_free_bits width (source_place pc registers origin) bits x)
@@ -133,7 +133,7 @@ made_holds laws {registers} {pc} {len} {done} {width} {origin} {target} {one} {o
     (with_free_bits width (destination_place pc len (grown registers width origin) target) bits y) carry (values_of width one) (values_of width other) c made_so are.source.values are.target_so.values bit may)
 
 -- the relation of the result
-result_related : (laws : Premises) {first : Option Suspended} {device : Device} {ram registers : List ℕ} {pc len : ℕ} {done : Operation} (width : Width) {origin : Source}
+result_related : (laws : InstructionLaws) {first : Option Suspended} {device : Device} {ram registers : List ℕ} {pc len : ℕ} {done : Operation} (width : Width) {origin : Source}
     {target : Destination} {one other : Word} {x y bits : ℕ} (carry : ℕ) (made_so : Made)
     → IsSource origin → AreOperands first device ram registers pc len done width origin target one other x y bits
     → MayMake done width (with_free_bits width (source_place pc registers origin) bits x)
@@ -157,7 +157,7 @@ flags_put {next} {left} {made_set} {made_so} form made_is put = record {
   parts = flags_written made_set.1 made_so.1 put.are.count form.bits form.fact made_is.flags put.parts;
 }
 
-pub double_law : (laws : Premises) (device : Device) (framed : Bool) (a : Known) (s : ChipState) (first : Option ChipState) (len : ℕ) (done : Operation) (width : Width)
+pub double_law : (laws : InstructionLaws) (device : Device) (framed : Bool) (a : Known) (s : ChipState) (first : Option ChipState) (len : ℕ) (done : Operation) (width : Width)
     (origin : Source) (target : Destination) (outcome : Outcome ChipState)
     → IsUnder device framed a s first → IsSource origin → IsDestination target → LeavesStatus target
     → (may : MayDouble device s len done width origin target outcome)

@@ -35,7 +35,7 @@ use Rattle.msp430_chip.specs.Step.{reads_counter}
 use Rattle.msp430_results.specs.FlagSets.{IsResult}
 use Rattle.msp430_alu.specs.Formats.{constant_of, relation_of, masked_and, masked_clear, masked_or, counter_set, is_one_register}
 use Rattle.msp430_results.specs.Words.{written_word}
-use Rattle.msp430_alu.specs.Premises.{Premises}
+use Rattle.msp430_results.specs.InstructionLaws.{InstructionLaws}
 use Rattle.msp430_alu.specs.NumberFacts.{join_first_is, join_second_is, single_is}
 use Rattle.msp430_alu.proofs.Putting.{IsWritten}
 
@@ -46,7 +46,7 @@ two_options zero h = inl refl
 two_options (suc zero) h = inr refl
 two_options (suc (suc n)) h = absurd (omega arith)
 
-pub counter_is : (laws : Premises) (s : ChipState) (len : ℕ) (origin : Source) (target : Destination) (counted : ℕ)
+pub counter_is : (laws : InstructionLaws) (s : ChipState) (len : ℕ) (origin : Source) (target : Destination) (counted : ℕ)
     → MayCount s len origin target counted
     → IsResult 65536 (counter_set (register_of s 0) len origin target) counted
 counter_is laws s len origin target counted (Behind other e) =
@@ -70,7 +70,7 @@ counter_is laws s len origin target counted (Within reads option few e) =
 
 -- RELATIONS OF RESULTS
 
-and_related : (laws : Premises) (first : Option Suspended) (constant : Option ℕ) (entry : Option Entry) (s d : ℕ)
+and_related : (laws : InstructionLaws) (first : Option Suspended) (constant : Option ℕ) (entry : Option Entry) (s d : ℕ)
     → ((m : ℕ) → constant ≡ Some m → s ≡ m)
     → IsFromEntry first entry d
     → IsFromEntry first (masked_and constant entry) (bit_and d s)
@@ -78,7 +78,7 @@ and_related laws first None entry s d is holds = tt
 and_related laws first (Some m) entry s d is holds =
     subst (λ n. IsFromEntry first (masked_and (Some m) entry) (bit_and d n)) (sym (is m refl)) (laws.known.values.entries.and first entry d m holds)
 
-clear_related : (laws : Premises) (first : Option Suspended) (constant : Option ℕ) (entry : Option Entry) (s d : ℕ)
+clear_related : (laws : InstructionLaws) (first : Option Suspended) (constant : Option ℕ) (entry : Option Entry) (s d : ℕ)
     → ((m : ℕ) → constant ≡ Some m → s ≡ m)
     → IsFromEntry first entry d
     → IsFromEntry first (masked_clear constant entry) (bit_and d (65535 - s))
@@ -86,7 +86,7 @@ clear_related laws first None entry s d is holds = tt
 clear_related laws first (Some m) entry s d is holds =
     subst (λ n. IsFromEntry first (masked_clear (Some m) entry) (bit_and d (65535 - n))) (sym (is m refl)) (laws.known.values.entries.and first entry d (65535 - m) holds)
 
-or_related : (laws : Premises) (first : Option Suspended) (constant : Option ℕ) (entry : Option Entry) (s d : ℕ)
+or_related : (laws : InstructionLaws) (first : Option Suspended) (constant : Option ℕ) (entry : Option Entry) (s d : ℕ)
     → ((m : ℕ) → constant ≡ Some m → s ≡ m)
     → IsFromEntry first entry d
     → IsFromEntry first (masked_or constant entry) (bit_or d s)
@@ -97,7 +97,7 @@ or_related laws first (Some m) entry s d is holds =
 result_of_made : (one other : Made) → one ≡ other → one.0 ≡ other.0
 result_of_made one other e = ap (λ (made_so : Made). made_so.0) e
 
-pub related : (laws : Premises) (first : Option Suspended) (done : Operation) (constant : Option ℕ) (one other : Option Entry) (s d carry : ℕ) (made_so : Made)
+pub related : (laws : InstructionLaws) (first : Option Suspended) (done : Operation) (constant : Option ℕ) (one other : Option Entry) (s d carry : ℕ) (made_so : Made)
     → MayMake done Words s d carry made_so
     → ((m : ℕ) → constant ≡ Some m → s ≡ m) → IsFromEntry first one s → IsFromEntry first other d
     → IsFromEntry first (relation_of done constant one other) made_so.0
@@ -132,7 +132,7 @@ constant_value_is device ram registers pc other x bits m is e stands = absurd (c
 
 -- RESULTS AS WORDS
 
-byte_word : (laws : Premises) (first : Option Suspended) {set_so : Form} {v : ℕ} → IsResult 256 set_so v
+byte_word : (laws : InstructionLaws) (first : Option Suspended) {set_so : Form} {v : ℕ} → IsResult 256 set_so v
     → IsWritten first Byte (record { set = pair_set set_so (single 0); entry = None }) v
 byte_word laws first {set_so} {v} is =
     let none = single_is laws.known 256 0 (omega arith) in
@@ -145,7 +145,7 @@ byte_word laws first {set_so} {v} is =
       byte = λ e n h. laws.known.bits.pair_byte set_so n is.normal h;
     }
 
-pub written_is : (laws : Premises) (first : Option Suspended) (width : Width) {set_so : Form} (entry : Option Entry) {v : ℕ}
+pub written_is : (laws : InstructionLaws) (first : Option Suspended) (width : Width) {set_so : Form} (entry : Option Entry) {v : ℕ}
     → IsResult (modulus width) set_so v
     → (width ≡ Words → IsFromEntry first entry v)
     → IsWritten first width (written_word width set_so entry) v

@@ -27,7 +27,7 @@ use Rattle.msp430_state.specs.Known.{Known}
 use Rattle.msp430_results.specs.FlagSets.{IsResult}
 use Rattle.msp430_alu.specs.Formats.{IsUnder}
 use Rattle.msp430_alu.specs.Operands.{grown_known, source_reach, IsReached}
-use Rattle.msp430_alu.specs.Premises.{Premises}
+use Rattle.msp430_results.specs.InstructionLaws.{InstructionLaws}
 use Rattle.msp430_alu.specs.Registers.{AreRegisters, register_word}
 use Rattle.msp430_alu.specs.NumberFacts.{single_is, add_is}
 use Rattle.msp430_alu.proofs.OperandLemmas.{IsOnTheWay, pointer_held, source_reached}
@@ -76,12 +76,12 @@ pointer_pc registers {register} value pointer (General is) =
     ap (λ list. get_or list 0 0) (is.set registers value) ∙ get_or-set_other registers (number register) 0 value 0 (λ e. let low = is.above in omega (arith, e, low))
 
 -- what is known behind @Rn+
-pub grown_on : (laws : Premises) {device : Device} {framed : Bool} {a : Known} {counted : Form} {first : Option ChipState} {registers ram : List ℕ}
+pub grown_on : (laws : InstructionLaws) {device : Device} {framed : Bool} {a : Known} {counted : Form} {first : Option ChipState} {registers ram : List ℕ}
     → IsOnTheWay device framed a counted first registers ram
     → (width : Width) (origin : Source) → IsSource origin
     → IsOnTheWay device framed (grown_known a counted width origin) counted first (grown registers width origin) ram
 grown_on laws {framed} {a} {counted} {first} {registers} on width (source.IndirectIncrement register) is =
-    let kind = laws.kinds register in
+    let kind = laws.places.kinds register in
     let more = growth width register in
     let value = (value_in registers register + more) % 65536 in
     let small : value < 65536 = omega arith in
@@ -98,10 +98,10 @@ grown_on laws {framed} {a} {counted} {first} {registers} on width (source.Indire
 grown_on laws on width other is = on
 
 -- and PC stays
-pub grown_pc : (laws : Premises) (registers : List ℕ) (width : Width) (origin : Source) → IsSource origin
+pub grown_pc : (laws : InstructionLaws) (registers : List ℕ) (width : Width) (origin : Source) → IsSource origin
     → get_or (grown registers width origin) 0 0 ≡ get_or registers 0 0
 grown_pc laws registers width (source.IndirectIncrement register) is =
-    pointer_pc registers ((value_in registers register + growth width register) % 65536) is (laws.kinds register)
+    pointer_pc registers ((value_in registers register + growth width register) % 65536) is (laws.places.kinds register)
 grown_pc laws registers width other is = refl
 
 -- the registers on the way through an instruction: at its source, and behind that
@@ -111,7 +111,7 @@ pub record IsOnWay (device : Device) (framed : Bool) (a : Known) (s : ChipState)
   pub behind : IsOnTheWay device framed (grown_known a counted_so width origin) counted_so first (behind_source s counted width origin) s.ram
   pub source : IsReached (source_reach (register_of s 0) a counted_so origin) (origin_of s counted origin)
 
-pub way : (laws : Premises) {device : Device} {framed : Bool} {a : Known} {s : ChipState} {first : Option ChipState} {counted : ℕ} {counted_so : Form}
+pub way : (laws : InstructionLaws) {device : Device} {framed : Bool} {a : Known} {s : ChipState} {first : Option ChipState} {counted : ℕ} {counted_so : Form}
     → IsUnder device framed a s first → IsResult 65536 counted_so counted
     → (width : Width) (origin : Source) → IsSource origin → IsOnWay device framed a s first counted counted_so width origin
 way laws {s = s} {counted = counted} {counted_so = counted_so} under is width origin from_so =
@@ -119,5 +119,5 @@ way laws {s = s} {counted = counted} {counted_so = counted_so} under is width or
     record { on = on; behind = grown_on laws on width origin from_so; source = source_reached laws on (register_of s 0) origin from_so }
 
 -- PC behind an instruction
-pub behind_is : (laws : Premises) (s : ChipState) (len : ℕ) → IsResult 65536 (single (behind s len)) (behind s len)
+pub behind_is : (laws : InstructionLaws) (s : ChipState) (len : ℕ) → IsResult 65536 (single (behind s len)) (behind s len)
 behind_is laws s len = single_is laws.known 65536 (behind s len) (omega arith)

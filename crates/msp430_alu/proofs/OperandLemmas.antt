@@ -43,7 +43,7 @@ use Rattle.msp430_results.specs.FlagSets.{IsResult}
 use Rattle.msp430_alu.specs.Memory.{IsDevice}
 use Rattle.msp430_alu.specs.Operands.{beside, source_reach, destination_reach, IsReached, operand_word}
 use Rattle.msp430_results.specs.Words.{values_of}
-use Rattle.msp430_alu.specs.Premises.{Premises}
+use Rattle.msp430_results.specs.InstructionLaws.{InstructionLaws}
 use Rattle.msp430_alu.specs.Registers.{AreRegisters, register_word}
 use Rattle.msp430_alu.specs.NumberFacts.{single_is, add_is}
 use Rattle.msp430_alu.proofs.ReadingLemmas.{IsHeld, IsMemory, known_held, memory_below}
@@ -59,7 +59,7 @@ general_word a counted Sr low = absurd (omega (arith, low))
 general_word a counted R3 low = absurd (omega (arith, low))
 general_word a counted other low = refl
 
-pub word_of_form : (laws : Premises) {lo hi : ℕ} {framed : Bool} {a : Known} → IsKnown lo hi framed a → (register : ℕ)
+pub word_of_form : (laws : InstructionLaws) {lo hi : ℕ} {framed : Bool} {a : Known} → IsKnown lo hi framed a → (register : ℕ)
     → IsWord framed (word_of a register)
 word_of_form laws {framed} {a} form register = elim (cases_lt (register - 4) (length a.registers)) [
   | inl inside ↦ All-get_or (IsWord framed) a.registers (register - 4) (unknown 2) inside form.registers
@@ -74,7 +74,7 @@ pub record IsOnTheWay (device : Device) (framed : Bool) (a : Known) (counted : F
   pub parts : HoldsOfParts device a first registers ram
 
 -- a register as a word operand, with bits of SR that nothing holds
-pub register_held : (laws : Premises) {device : Device} {framed : Bool} {a : Known} {counted : Form} {first : Option ChipState} {registers ram : List ℕ}
+pub register_held : (laws : InstructionLaws) {device : Device} {framed : Bool} {a : Known} {counted : Form} {first : Option ChipState} {registers ram : List ℕ}
     → IsOnTheWay device framed a counted first registers ram
     → {register : Register} (bits : ℕ) → bits < 128 → (is_status (place.InRegister register) ≡ false → bits ≡ 0) → Kind register
     → IsHeld (option_map suspended_of first) (register_word a counted register) (value_in registers register + 512 * bits)
@@ -105,15 +105,15 @@ register_held laws {a} {counted} {first} {registers} on {register} bits few none
 
 -- WHERE OPERANDS STAND
 
-pub pointer_held : (laws : Premises) {device : Device} {framed : Bool} {a : Known} {counted : Form} {first : Option ChipState} {registers ram : List ℕ}
+pub pointer_held : (laws : InstructionLaws) {device : Device} {framed : Bool} {a : Known} {counted : Form} {first : Option ChipState} {registers ram : List ℕ}
     → IsOnTheWay device framed a counted first registers ram
     → (register : Register) → IsPointer register → IsResult 65536 (register_word a counted register).set (value_in registers register)
 pointer_held laws {a} {counted} {registers} on register pointer =
-    let held = register_held laws on 0 (omega arith) (λ e. refl) (laws.kinds register) in
+    let held = register_held laws on 0 (omega arith) (λ e. refl) (laws.places.kinds register) in
     let same : value_in registers register + 512 * 0 ≡ value_in registers register = omega arith in
     record { normal = held.normal; has = subst (Has 65536 (register_word a counted register).set) same held.holds.0 }
 
-beside_held : (laws : Premises) {device : Device} {framed : Bool} {a : Known} {counted : Form} {first : Option ChipState} {registers ram : List ℕ}
+beside_held : (laws : InstructionLaws) {device : Device} {framed : Bool} {a : Known} {counted : Form} {first : Option ChipState} {registers ram : List ℕ}
     → IsOnTheWay device framed a counted first registers ram
     → (register : Register) (offset : ℕ) → IsPointer register → offset < 65536
     → IsResult 65536 (beside a counted register offset) ((value_in registers register + offset) % 65536)
@@ -128,7 +128,7 @@ constant_small other = omega arith
 wrapped : (n : ℕ) → n % 65536 < 65536
 wrapped n = omega arith
 
-pub source_reached : (laws : Premises) {device : Device} {framed : Bool} {a : Known} {counted : Form} {first : Option ChipState} {registers ram : List ℕ}
+pub source_reached : (laws : InstructionLaws) {device : Device} {framed : Bool} {a : Known} {counted : Form} {first : Option ChipState} {registers ram : List ℕ}
     → IsOnTheWay device framed a counted first registers ram
     → (pc : ℕ) (origin : Source) → IsSource origin → IsReached (source_reach pc a counted origin) (source_place pc registers origin)
 source_reached laws on pc (source.Register register) is = refl
@@ -141,7 +141,7 @@ source_reached laws on pc (source.Symbolic offset) is = single_is laws.known 655
 source_reached laws on pc (source.Absolute address) is = single_is laws.known 65536 address is
 source_reached laws on pc (source.Constant constant) is = (refl, constant_small constant)
 
-pub destination_reached : (laws : Premises) {device : Device} {framed : Bool} {a : Known} {counted : Form} {first : Option ChipState} {registers ram : List ℕ}
+pub destination_reached : (laws : InstructionLaws) {device : Device} {framed : Bool} {a : Known} {counted : Form} {first : Option ChipState} {registers ram : List ℕ}
     → IsOnTheWay device framed a counted first registers ram
     → (pc len : ℕ) (target : Destination) → IsDestination target
     → IsReached (destination_reach pc len a counted target) (destination_place pc len registers target)
@@ -161,7 +161,7 @@ pub record IsOperand (first : Option Suspended) (width : Width) (word : Word) (v
 of_word : {first : Option Suspended} {word : Word} {v : ℕ} → IsHeld first word v → IsOperand first Words word v
 of_word held = record { values = record { normal = held.normal; has = held.holds.0 }; holds = λ e. held.holds }
 
-of_byte : (laws : Premises) {first : Option Suspended} {word : Word} {v : ℕ} (x : ℕ) → IsHeld first word v → x ≡ v % 256
+of_byte : (laws : InstructionLaws) {first : Option Suspended} {word : Word} {v : ℕ} (x : ℕ) → IsHeld first word v → x ≡ v % 256
     → IsOperand first Byte word x
 of_byte laws {word} {v} x held is = record {
   values = record { normal = laws.known.bits.low_normal word.set held.normal; has = subst (Has 256 (low_set word.set)) (sym is) (laws.known.bits.low v word.set held.normal held.holds.0) };
@@ -180,7 +180,7 @@ register_small : {registers : List ℕ} (register : Register) → AreRegisters r
 register_small {registers} register are =
     mod-eq_of_lt {n = value_in registers register} {m = 65536} (value_small are (number register) (number_small register))
 
-pub operand_held : (laws : Premises) {device : Device} {framed : Bool} {a : Known} {counted : Form} {first : Option ChipState} {registers ram : List ℕ}
+pub operand_held : (laws : InstructionLaws) {device : Device} {framed : Bool} {a : Known} {counted : Form} {first : Option ChipState} {registers ram : List ℕ}
     → IsOnTheWay device framed a counted first registers ram
     → IsDevice device → (width : Width) (reach : Reach) (stands : Place) (x bits : ℕ) → IsReached reach stands
     → MayStandAt device ram registers width stands x → bits < 128
@@ -192,15 +192,15 @@ operand_held laws {a} {counted} {first} {registers} on is Words (InRegister regi
     subst (λ r. IsOperand under Words (register_word a counted register) (with_free_bits Words (place.InRegister r) bits x)) reached
     (subst (λ v. IsOperand under Words (register_word a counted register) (with_free_bits Words (place.InRegister register) bits v)) (sym same)
     (cond_both (is_status (place.InRegister register)) (value + 512 * bits) value (λ v. IsOperand under Words (register_word a counted register) v)
-    (λ e. of_word (register_held laws on bits few (λ no_status. absurd (cc)) (laws.kinds register)))
+    (λ e. of_word (register_held laws on bits few (λ no_status. absurd (cc)) (laws.places.kinds register)))
     (λ e. let plain : value + 512 * 0 ≡ value = omega arith in
     subst (IsOperand under Words (register_word a counted register)) plain (of_word
-    (register_held laws on 0 (omega arith) (λ no_status. refl) (laws.kinds register))))))
+    (register_held laws on 0 (omega arith) (λ no_status. refl) (laws.places.kinds register))))))
 operand_held laws {first} {registers} on is Byte (InRegister register) (place.InRegister other) x bits reached stands few =
     let under = option_map suspended_of first in
     let value = value_in registers register in
     let low : x ≡ (value + 512 * 0) % 256 = subst (λ r. x ≡ value_in registers r % 256) (sym reached) stands ∙ ap (λ n. n % 256) (omega arith) in
-    of_byte laws x (register_held laws on 0 (omega arith) (λ no_status. refl) (laws.kinds register)) low
+    of_byte laws x (register_held laws on 0 (omega arith) (λ no_status. refl) (laws.places.kinds register)) low
 operand_held laws {device} {a} {first} {ram} on is Words (InMemory set_so) (place.InMemory address) x bits reached stands few =
     let memory : IsMemory device a (option_map suspended_of first) ram = record { device_so = is; cells = on.form.cells; stands = on.parts.cells } in
     of_word (known_held laws memory Words x reached stands)

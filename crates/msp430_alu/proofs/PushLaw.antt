@@ -30,7 +30,7 @@ use Rattle.msp430_results.specs.FlagSets.{IsResult}
 use Rattle.msp430_alu.specs.Formats.{put_known, lowered_known, forming_known, pushed_known, called_next, push_worked, IsUnder, IsLeft}
 use Rattle.msp430_results.specs.Words.{values_of, written_word}
 use Rattle.msp430_alu.specs.Operands.{grown_known}
-use Rattle.msp430_alu.specs.Premises.{Premises}
+use Rattle.msp430_results.specs.InstructionLaws.{InstructionLaws}
 use Rattle.msp430_alu.specs.Registers.{AreRegisters, even_parts, with_sp}
 use Rattle.msp430_alu.specs.NumberFacts.{single_is, add_is, even_parts_is, join_first_is, join_second_is}
 use Rattle.msp430_alu.proofs.Doubles.{two_options, written_is}
@@ -43,7 +43,7 @@ use Rattle.msp430_alu.proofs.Shapes.{sp_form}
 -- SP
 
 -- another set that has SP
-sp_seen : (laws : Premises) {device : Device} {framed : Bool} {a : Known} {counted : Form} {first : Option ChipState} {registers ram : List ℕ} {set_so : Form}
+sp_seen : (laws : InstructionLaws) {device : Device} {framed : Bool} {a : Known} {counted : Form} {first : Option ChipState} {registers ram : List ℕ} {set_so : Form}
     → IsOnTheWay device framed a counted first registers ram
     → IsResult 65536 set_so (get_or registers 1 0) → IsOnTheWay device framed (with_sp a set_so) counted first registers ram
 sp_seen laws {registers} {set_so} on is =
@@ -56,7 +56,7 @@ sp_seen laws {registers} {set_so} on is =
     }
 
 -- another SP
-sp_set : (laws : Premises) {device : Device} {framed : Bool} {a : Known} {counted : Form} {first : Option ChipState} {registers ram : List ℕ} {set_so : Form} {value : ℕ}
+sp_set : (laws : InstructionLaws) {device : Device} {framed : Bool} {a : Known} {counted : Form} {first : Option ChipState} {registers ram : List ℕ} {set_so : Form} {value : ℕ}
     → IsOnTheWay device framed a counted first registers ram
     → IsResult 65536 set_so value → even value ≡ value
     → IsOnTheWay device framed (with_sp a set_so) counted first (set registers 1 value) ram
@@ -70,7 +70,7 @@ sp_set laws {device} {a} {counted} {first} {registers} {ram} {set_so} {value} on
           (sp_written value set_so on.are.count on.form.fact (even_parts_is laws.known set_so value is).has on.parts);
     }
 
-pub lowered_is : (laws : Premises) {device : Device} {framed : Bool} {a : Known} {counted : Form} {first : Option ChipState} {registers ram : List ℕ}
+pub lowered_is : (laws : InstructionLaws) {device : Device} {framed : Bool} {a : Known} {counted : Form} {first : Option ChipState} {registers ram : List ℕ}
     → IsOnTheWay device framed a counted first registers ram
     → IsResult 65536 (add 65536 a.sp (single 65534)) (lowered (get_or registers 1 0))
 lowered_is laws {a} {registers} on =
@@ -80,14 +80,14 @@ lowered_is laws {a} {registers} on =
 lowered_even : {registers : List ℕ} → AreRegisters registers → even (lowered (get_or registers 1 0)) ≡ lowered (get_or registers 1 0)
 lowered_even are = omega (arith, are.even_sp)
 
-pub lowered_on : (laws : Premises) {device : Device} {framed : Bool} {a : Known} {counted : Form} {first : Option ChipState} {registers ram : List ℕ}
+pub lowered_on : (laws : InstructionLaws) {device : Device} {framed : Bool} {a : Known} {counted : Form} {first : Option ChipState} {registers ram : List ℕ}
     → IsOnTheWay device framed a counted first registers ram
     → IsOnTheWay device framed (lowered_known a) counted first (set registers 1 (lowered (get_or registers 1 0))) ram
 lowered_on laws on =
     sp_set laws on (lowered_is laws on) (lowered_even on.are)
 
 -- the operand is formed before or after SP is lowered
-both_seen : (laws : Premises) {device : Device} {framed : Bool} {a : Known} {counted : Form} {first : Option ChipState} {registers ram : List ℕ} (option : ℕ)
+both_seen : (laws : InstructionLaws) {device : Device} {framed : Bool} {a : Known} {counted : Form} {first : Option ChipState} {registers ram : List ℕ} (option : ℕ)
     → option < 2
     → IsOnTheWay device framed a counted first registers ram
     → IsOnTheWay device framed (with_sp a (join 65536 a.sp (add 65536 a.sp (single 65534)))) counted first (with_lowered option registers) ram
@@ -102,7 +102,7 @@ both_seen laws {device} {framed} {a} {counted} {first} {registers} {ram} option 
           (sp_set laws on (join_second_is laws.known 65536 (lowered (get_or registers 1 0)) a.sp less on.form.sp.normal less_is) (lowered_even on.are))
     ]
 
-pub forming_on : (laws : Premises) {device : Device} {framed : Bool} {a : Known} {counted : Form} {first : Option ChipState} {registers ram : List ℕ} (operand : Source)
+pub forming_on : (laws : InstructionLaws) {device : Device} {framed : Bool} {a : Known} {counted : Form} {first : Option ChipState} {registers ram : List ℕ} (operand : Source)
     (option : ℕ) → IsOption (is_formed_by_stack operand) 2 option
     → IsOnTheWay device framed a counted first registers ram
     → IsOnTheWay device framed (forming_known operand a) counted first (with_lowered option registers) ram
@@ -114,7 +114,7 @@ forming_on laws {device} {framed} {a} {counted} {first} {registers} {ram} operan
 
 -- THE PUSHED WORD
 
-byte_pushed : (laws : Premises) {first : Option Suspended} {x : Word} {v : ℕ} (word : ℕ) → IsOperand first Byte x v
+byte_pushed : (laws : InstructionLaws) {first : Option Suspended} {x : Word} {v : ℕ} (word : ℕ) → IsOperand first Byte x v
     → MayPushWord Byte v word
     → IsWritten first Words (record { set = pair_set (values_of Byte x) (make 256 0 1 256); entry = None }) word
 byte_pushed laws {x} {v} word held (high, few, is) =
@@ -133,7 +133,7 @@ byte_pushed laws {x} {v} word held (high, few, is) =
 word_pushed : {first : Option Suspended} {x : Word} {v : ℕ} → IsOperand first Words x v → IsWritten first Words x v
 word_pushed held = record { held = record { normal = held.values.normal; holds = held.holds refl }; byte = λ e. absurd (omega (arith, e)) }
 
-value_pushed : (laws : Premises) {first : Option Suspended} (width : Width) {x : Word} {v : ℕ} (word : ℕ)
+value_pushed : (laws : InstructionLaws) {first : Option Suspended} (width : Width) {x : Word} {v : ℕ} (word : ℕ)
     → IsOperand first width x v → MayPushWord width v word
     → IsWritten first Words (pushed_known Push width x word) word
 value_pushed laws {first} Words {x} word held is = subst (IsWritten first Words x) (sym is) (word_pushed held)
@@ -146,7 +146,7 @@ alike Call width x one other differs = absurd (differs refl)
 alike done Words x one other differs = refl
 alike done Byte x one other differs = refl
 
-call_pushed : (laws : Premises) (first : Option Suspended) (width : Width) (x : Word) (after : ℕ) → after < 65536
+call_pushed : (laws : InstructionLaws) (first : Option Suspended) (width : Width) (x : Word) (after : ℕ) → after < 65536
     → IsWritten first Words (pushed_known Call width x after) after
 call_pushed laws first width x after small =
     let is = single_is laws.known 65536 after small in record { held = record { normal = is.normal; holds = (is.has, tt) }; byte = λ e. absurd (omega (arith, e)) }
@@ -154,7 +154,7 @@ call_pushed laws first width x after small =
 -- WHAT A PUSH LEAVES
 
 -- where the word goes
-pub slot_reached : (laws : Premises) {device : Device} {framed : Bool} {b : Known} {counted : Form} {first : Option ChipState} {registers ram : List ℕ}
+pub slot_reached : (laws : InstructionLaws) {device : Device} {framed : Bool} {b : Known} {counted : Form} {first : Option ChipState} {registers ram : List ℕ}
     → IsOnTheWay device framed b counted first registers ram → IsResult 65536 (lowered_known b).sp (lowered (get_or registers 1 0))
 slot_reached laws {b = b} {registers = registers} on =
     let sp = lowered (get_or registers 1 0) in
@@ -166,7 +166,7 @@ abbrev pushed_behind : Device → Bool → Known → Word → Known
 pushed_behind device framed b word = put_known device framed (lowered_known b) Words (InMemory (lowered_known b).sp) word
 
 -- behind the operand PC has its value, and the word goes below SP
-pushed_left : (laws : Premises) {device : Device} {framed : Bool} {b : Known} {first : Option ChipState} {registers ram : List ℕ} {pc word : ℕ} {pushed_so : Word}
+pushed_left : (laws : InstructionLaws) {device : Device} {framed : Bool} {b : Known} {first : Option ChipState} {registers ram : List ℕ} {pc word : ℕ} {pushed_so : Word}
     → IsReady device framed b first registers ram pc
     → IsWritten (option_map suspended_of first) Words pushed_so word
     → IsPut device (pushed_behind device framed b pushed_so) first (single pc) (pushed device registers ram word)
@@ -188,7 +188,7 @@ plain_next : (done : SingleOperation) (width : Width) (x : Word) (after : ℕ) �
 plain_next Call width x after differs = absurd (differs refl)
 plain_next other width x after differs = refl
 
-plain_left : (laws : Premises) {device : Device} {framed : Bool} {b : Known} {first : Option ChipState} {registers ram : List ℕ} {after : ℕ}
+plain_left : (laws : InstructionLaws) {device : Device} {framed : Bool} {b : Known} {first : Option ChipState} {registers ram : List ℕ} {after : ℕ}
     → IsReady device framed b first registers ram after
     → (done : SingleOperation) {width : Width} {x : Word} {v : ℕ} (left : Left)
     → IsOperand (option_map suspended_of first) width x v → (done ≡ Call → ⊥)
@@ -200,7 +200,7 @@ plain_left laws {device} {framed} {b} {first} {registers} {ram} {after} ready do
     subst (IsLeft device (pushed_behind device framed b (pushed_known done width x after)) first (called_next done width x after)) (sym left_is)
     (record { next_is = subst (λ n. IsResult 65536 n (get_or (pushed device registers ram word).registers 0 0)) (sym (plain_next done width x after differs)) put_so.next_is; parts = put_so.parts })
 
-call_left : (laws : Premises) {device : Device} {framed : Bool} {b : Known} {first : Option ChipState} {registers ram : List ℕ} {after : ℕ}
+call_left : (laws : InstructionLaws) {device : Device} {framed : Bool} {b : Known} {first : Option ChipState} {registers ram : List ℕ} {after : ℕ}
     → IsReady device framed b first registers ram after
     → {width : Width} {x : Word} {v : ℕ} (left : Left) → IsOperand (option_map suspended_of first) width x v
     → left ≡ pushed device (set registers 0 (even v)) ram after
@@ -223,7 +223,7 @@ call_left laws {device} {framed} {b} {first} {registers} {ram} {after} ready {wi
     subst (IsLeft device (pushed_behind device framed b (pushed_known Call width x after)) first (called_next Call width x after)) (sym left_is)
     (record { next_is = subst (IsResult 65536 (even_parts target.set)) (sym at_end) goes; parts = put_so.parts })
 
-either_left : (laws : Premises) {device : Device} {framed : Bool} {b : Known} {first : Option ChipState} {registers ram : List ℕ} {after : ℕ}
+either_left : (laws : InstructionLaws) {device : Device} {framed : Bool} {b : Known} {first : Option ChipState} {registers ram : List ℕ} {after : ℕ}
     → IsReady device framed b first registers ram after
     → (done : SingleOperation) {width : Width} {x : Word} {v : ℕ} (left : Left) → IsOperand (option_map suspended_of first) width x v
     → MayLeavePush device ram registers done width v after left
@@ -234,14 +234,14 @@ either_left laws ready other left held leaves = plain_left laws ready other left
 -- THE LAW
 
 -- the registers that form the operand
-pub push_forming : (laws : Premises) {device : Device} {framed : Bool} {a : Known} {s : ChipState} {first : Option ChipState} {len : ℕ} {done : SingleOperation} {width : Width}
+pub push_forming : (laws : InstructionLaws) {device : Device} {framed : Bool} {a : Known} {s : ChipState} {first : Option ChipState} {len : ℕ} {done : SingleOperation} {width : Width}
     {operand : Source}
     {outcome : Outcome ChipState} → IsUnder device framed a s first → (may : MayPush device s len done width operand outcome)
     → IsOnTheWay device framed (forming_known operand a) (single (behind s len)) first (with_lowered may.option (at_source s (behind s len))) s.ram
 push_forming laws {s = s} {len = len} {operand = operand} under may =
     forming_on laws operand may.option may.formed (on_the_way under.form under.holds (omega arith) (behind_is laws s len))
 
-pub push_law : (laws : Premises) (device : Device) (framed : Bool) (a : Known) (s : ChipState) (first : Option ChipState) (len : ℕ) (done : SingleOperation) (width : Width)
+pub push_law : (laws : InstructionLaws) (device : Device) (framed : Bool) (a : Known) (s : ChipState) (first : Option ChipState) (len : ℕ) (done : SingleOperation) (width : Width)
     (operand : Source)
     (outcome : Outcome ChipState) → IsUnder device framed a s first → IsSource operand
     → (may : MayPush device s len done width operand outcome)

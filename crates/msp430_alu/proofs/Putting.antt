@@ -34,7 +34,7 @@ use Rattle.msp430_results.specs.FlagSets.{IsResult}
 use Rattle.msp430_alu.specs.Formats.{put_known, put_known_if, next_by, next_if}
 use Rattle.msp430_alu.specs.Memory.{IsDevice, IsRam}
 use Rattle.msp430_alu.specs.Operands.{IsReached}
-use Rattle.msp430_alu.specs.Premises.{Premises}
+use Rattle.msp430_results.specs.InstructionLaws.{InstructionLaws}
 use Rattle.msp430_alu.specs.Registers.{AreRegisters, put_register, with_word}
 use Rattle.msp430_alu.proofs.WhereAccesses.{located_is}
 use Rattle.msp430_alu.specs.NumberFacts.{single_is, even_parts_is}
@@ -95,7 +95,7 @@ pub record IsWritten (first : Option Suspended) (width : Width) (word : Word) (v
   pub held : IsHeld first word value
   pub byte : size_of width ≡ 1 → (n : ℕ) → Has 65536 word.set n → n < 256
 
-pub register_put : (laws : Premises) {device : Device} {framed : Bool} {a : Known} {first : Option ChipState} {registers ram : List ℕ} {register : Register} {word : Word}
+pub register_put : (laws : InstructionLaws) {device : Device} {framed : Bool} {a : Known} {first : Option ChipState} {registers ram : List ℕ} {register : Register} {word : Word}
     {value : ℕ} → IsKnown device.ram.lo device.ram.hi framed a
     → AreRegisters registers → is_status (place.InRegister register) ≡ false → Kind register
     → IsHeld (option_map suspended_of first) word value
@@ -112,7 +112,7 @@ register_put laws {a} {registers} {register} {word} {value} form are no_status (
     rw (general_put a register word is.above, is.set registers value)
     (word_written (number register) value word are.count form.count is.above is.below held.holds holds)
 
-value_below : (laws : Premises) {first : Option Suspended} (width : Width) {word : Word} {value : ℕ}
+value_below : (laws : InstructionLaws) {first : Option Suspended} (width : Width) {word : Word} {value : ℕ}
     → IsWritten first width word value → value < modulus width
 value_below laws Words {word} {value} is = laws.known.sets.below 65536 value word.set is.held.normal is.held.holds.0
 value_below laws Byte {value} is = is.byte refl value is.held.holds.0
@@ -135,7 +135,7 @@ general_next Sr word behind_so low = refl
 general_next R3 word behind_so low = refl
 general_next other word behind_so low = refl
 
-register_next : (laws : Premises) {first : Option Suspended} {registers : List ℕ} {register : Register} {word : Word} {value : ℕ} (behind_so : ℕ)
+register_next : (laws : InstructionLaws) {first : Option Suspended} {registers : List ℕ} {register : Register} {word : Word} {value : ℕ} (behind_so : ℕ)
     → AreRegisters registers
     → get_or registers 0 0 ≡ behind_so → behind_so < 65536
     → Kind register → IsHeld first word value
@@ -164,7 +164,7 @@ pub record IsReady (device : Device) (framed : Bool) (a : Known) (first : Option
   pub small : behind_so < 65536
   pub parts : HoldsOfParts device a first registers ram
 
-pub put_is : (laws : Premises) {device : Device} {framed : Bool} {a : Known} {first : Option ChipState} {registers ram : List ℕ} {behind_so : ℕ}
+pub put_is : (laws : InstructionLaws) {device : Device} {framed : Bool} {a : Known} {first : Option ChipState} {registers ram : List ℕ} {behind_so : ℕ}
     → IsReady device framed a first registers ram behind_so
     → {width : Width} (reach : Reach) (stands : Place) {word : Word} {value : ℕ} → IsReached reach stands → is_status stands ≡ false
     → IsWritten (option_map suspended_of first) width word value
@@ -172,9 +172,9 @@ pub put_is : (laws : Premises) {device : Device} {framed : Bool} {a : Known} {fi
 put_is laws {device} {a} {first} {registers} {ram} {behind_so} ready {width} (InRegister register) (place.InRegister other) {word} {value} reached no_status is =
     subst (λ r. IsPut device (put_register a register word) first (next_by (InRegister register) word behind_so)
     (put device registers ram width (place.InRegister r) value)) reached record {
-      are = written_are value (laws.known.sets.below 65536 value word.set is.held.normal is.held.holds.0) (laws.kinds register) ready.are;
-      next_is = register_next laws behind_so ready.are ready.pc ready.small (laws.kinds register) is.held;
-      parts = register_put laws ready.form ready.are (ap (λ r. is_status (place.InRegister r)) reached ∙ no_status) (laws.kinds register) is.held ready.parts;
+      are = written_are value (laws.known.sets.below 65536 value word.set is.held.normal is.held.holds.0) (laws.places.kinds register) ready.are;
+      next_is = register_next laws behind_so ready.are ready.pc ready.small (laws.places.kinds register) is.held;
+      parts = register_put laws ready.form ready.are (ap (λ r. is_status (place.InRegister r)) reached ∙ no_status) (laws.places.kinds register) is.held ready.parts;
     }
 put_is laws {behind_so} ready {width} (InMemory set_so) (place.InMemory address) {value} reached no_status is = record {
   are = ready.are;
@@ -191,7 +191,7 @@ put_is laws {behind_so} ready (Fixed fixed) (place.Fixed other) reached no_statu
 put_is laws ready reach stands reached no_status is = absurd reached
 
 -- the same, where the result is written
-pub put_if_is : (laws : Premises) {device : Device} {framed : Bool} {a : Known} {first : Option ChipState} {registers ram : List ℕ} {behind_so : ℕ}
+pub put_if_is : (laws : InstructionLaws) {device : Device} {framed : Bool} {a : Known} {first : Option ChipState} {registers ram : List ℕ} {behind_so : ℕ}
     → IsReady device framed a first registers ram behind_so
     → (writes : Bool) {width : Width} (reach : Reach) (stands : Place) {word : Word} {value : ℕ}
     → IsReached reach stands → is_status stands ≡ false

@@ -24,8 +24,8 @@ use Rattle.msp430_state.specs.Holding.{ram_byte}
 use Rattle.msp430_state.specs.Known.{Known}
 use Rattle.msp430_results.specs.FlagSets.{IsResult}
 use Rattle.msp430_alu.specs.Memory.{IsDevice, located, word_by, byte_by, program_word, read_one, read_each, read_list, read_known}
-use Rattle.msp430_alu.specs.Premises.{Premises}
-use Rattle.msp430_alu.proofs.WhereAccesses.{aligned_even, aligned_fits, located_is}
+use Rattle.msp430_results.specs.InstructionLaws.{InstructionLaws}
+use Rattle.msp430_alu.proofs.WhereAccesses.{located_is}
 use Rattle.msp430_alu.specs.NumberFacts.{single_is}
 
 -- UNKNOWN VALUES
@@ -35,17 +35,17 @@ pub record IsHeld (first : Option Suspended) (word : Word) (v : ℕ) : Type 0 wh
   pub normal : IsNormal 65536 word.set
   pub holds : HoldsOfWord first word v
 
-unknown_byte : (laws : Premises) (first : Option Suspended) (v : ℕ) → v < 256 → IsHeld first (unknown 1) v
+unknown_byte : (laws : InstructionLaws) (first : Option Suspended) (v : ℕ) → v < 256 → IsHeld first (unknown 1) v
 unfolding read
 unknown_byte laws first v small = record {
   normal = laws.known.cells.read_normal 0 0 0 0 1 [] tt;
   holds = laws.known.cells.reads first (λ at. v) 0 0 0 0 1 [] tt (omega arith) (inl refl) (λ at. small, λ cell h. absurd (in_none cell h));
 }
 
-unknown_word : (laws : Premises) (first : Option Suspended) (v : ℕ) → v < 65536 → IsHeld first (unknown 2) v
+unknown_word : (laws : InstructionLaws) (first : Option Suspended) (v : ℕ) → v < 65536 → IsHeld first (unknown 2) v
 unknown_word laws first v small = record { normal = laws.known.sets.whole_normal 65536 (omega arith); holds = (laws.known.sets.whole 65536 v small, tt) }
 
-unknown_normal : (laws : Premises) (width : Width) → IsNormal 65536 (unknown (size_of width)).set
+unknown_normal : (laws : InstructionLaws) (width : Width) → IsNormal 65536 (unknown (size_of width)).set
 unknown_normal laws Words = (unknown_word laws None 0 (omega arith)).normal
 unknown_normal laws Byte = (unknown_byte laws None 0 (omega arith)).normal
 
@@ -100,7 +100,7 @@ pub record IsMemory (device : Device) (a : Known) (first : Option Suspended) (ra
   pub cells : AreCells device.ram.lo device.ram.hi device.ram.lo a.cells.cells
   pub stands : StandsUnder first a.cells.cells (ram_byte device ram)
 
-byte_image_held : (laws : Premises) (first : Option Suspended) (byte : ℕ) (found : Option ℕ) → byte < 256
+byte_image_held : (laws : InstructionLaws) (first : Option Suspended) (byte : ℕ) (found : Option ℕ) → byte < 256
     → (found ≡ Some byte) ⊎ (found ≡ None)
     → IsHeld first (byte_by found) byte
 byte_image_held laws first byte found small (inl e) =
@@ -113,7 +113,7 @@ either_image : (device : Device) (at byte : ℕ) → OfImage device at byte
 either_image device at byte (Program e) = inl e
 either_image device at byte (Any e) = inr e
 
-word_image_held : (laws : Premises) (first : Option Suspended) (low high : ℕ) (one other : Option ℕ) → low < 256
+word_image_held : (laws : InstructionLaws) (first : Option Suspended) (low high : ℕ) (one other : Option ℕ) → low < 256
     → high < 256 → (one ≡ Some low) ⊎ (one ≡ None)
     → (other ≡ Some high) ⊎ (other ≡ None)
     → IsHeld first (word_by one other) (low + 256 * high)
@@ -126,13 +126,13 @@ word_image_held laws first low high (Some b) (Some c) small few (inl e) (inl g) 
 word_image_held laws first low high (Some b) (Some c) small few (inr e) k = absurd (cc)
 word_image_held laws first low high (Some b) (Some c) small few (inl e) (inr g) = absurd (cc)
 
-pub one_held : (laws : Premises) {device : Device} {a : Known} {first : Option Suspended} {ram : List ℕ}
+pub one_held : (laws : InstructionLaws) {device : Device} {a : Known} {first : Option Suspended} {ram : List ℕ}
     → IsMemory device a first ram → (width : Width) (address x : ℕ)
     → address < 65536
     → MayRead device ram width address x → IsHeld first (read_one device a width (aligned device width address)) x
 one_held laws {device} {a} {first} {ram} memory Byte address x below reads =
     let at = aligned device Byte address in
-    let fits = aligned_fits laws memory.device_so.ram Byte address below in
+    let fits = laws.places.fits device Byte address memory.device_so.ram below in
     elim (cases_Bool (is_ram device at)) [
       | inl inside ↦
           let is = byte_of_ram device ram at x inside reads in
@@ -151,8 +151,8 @@ one_held laws {device} {a} {first} {ram} memory Words address x below reads =
     let at = aligned device Words address in
     let low = reads.low in
     let high = reads.high in
-    let no_bit = aligned_even laws memory.device_so.ram address in
-    let fits = aligned_fits laws memory.device_so.ram Words address below in
+    let no_bit = laws.places.even device address memory.device_so.ram in
+    let fits = laws.places.fits device Words address memory.device_so.ram below in
     let small : at < 65535 = omega (arith, fits) in
     let together = both_in_ram memory.device_so at no_bit in
     elim (cases_Bool (is_ram device at)) [
@@ -181,23 +181,23 @@ one_held laws {device} {a} {first} {ram} memory Words address x below reads =
 
 -- SEVERAL ADDRESSES
 
-word_normal : (laws : Premises) (one other : Option ℕ) → ((b : ℕ) → one ≡ Some b → b < 256)
+word_normal : (laws : InstructionLaws) (one other : Option ℕ) → ((b : ℕ) → one ≡ Some b → b < 256)
     → ((b : ℕ) → other ≡ Some b → b < 256) → IsNormal 65536 (word_by one other).set
 word_normal laws None other small few = laws.known.sets.whole_normal 65536 (omega arith)
 word_normal laws (Some b) None small few = laws.known.sets.whole_normal 65536 (omega arith)
 word_normal laws (Some b) (Some c) small few = let low = small b refl in let high = few c refl in (laws.known.sets.single 65536 (b + 256 * c) (omega (arith, low, high))).0
 
-byte_normal : (laws : Premises) (found : Option ℕ) → ((b : ℕ) → found ≡ Some b → b < 256) → IsNormal 65536 (byte_by found).set
+byte_normal : (laws : InstructionLaws) (found : Option ℕ) → ((b : ℕ) → found ≡ Some b → b < 256) → IsNormal 65536 (byte_by found).set
 byte_normal laws None small = (unknown_byte laws None 0 (omega arith)).normal
 byte_normal laws (Some b) small = let low = small b refl in (laws.known.sets.single 65536 b (omega (arith, low))).0
 
-image_normal : (laws : Premises) {device : Device} → IsDevice device → (width : Width) (at : ℕ)
+image_normal : (laws : InstructionLaws) {device : Device} → IsDevice device → (width : Width) (at : ℕ)
     → IsNormal 65536 (program_word device width at).set
 image_normal laws {device} is Words at =
     word_normal laws (byte_at device.image at) (byte_at device.image (at + 1)) (λ b. image_below device.image at b is.bytes) (λ b. image_below device.image (at + 1) b is.bytes)
 image_normal laws {device} is Byte at = byte_normal laws (byte_at device.image at) (λ b. image_below device.image at b is.bytes)
 
-one_normal : (laws : Premises) {device : Device} (a : Known) → IsDevice device
+one_normal : (laws : InstructionLaws) {device : Device} (a : Known) → IsDevice device
     → AreCells device.ram.lo device.ram.hi device.ram.lo a.cells.cells → (width : Width) (at : ℕ)
     → IsNormal 65536 (read_one device a width at).set
 one_normal laws {device} a is cells width at =
@@ -205,7 +205,7 @@ one_normal laws {device} a is cells width at =
     (λ e. laws.known.cells.read_normal device.ram.lo device.ram.hi device.ram.lo at (size_of width) a.cells.cells cells)
     (λ e. image_normal laws is width at)
 
-each_normal : (laws : Premises) {device : Device} (a : Known) → IsDevice device
+each_normal : (laws : InstructionLaws) {device : Device} (a : Known) → IsDevice device
     → AreCells device.ram.lo device.ram.hi device.ram.lo a.cells.cells
     → (width : Width) (set : Form) (list : List ℕ) → IsNormal 65536 set
     → IsNormal 65536 (read_each device a width set list)
@@ -214,7 +214,7 @@ each_normal laws {device} a is cells width set (at ∷ rest) normal =
     each_normal laws a is cells width (join 65536 set (read_one device a width at).set) rest
     (laws.known.sets.join_normal 65536 set (read_one device a width at).set normal (one_normal laws a is cells width at))
 
-each_keeps : (laws : Premises) {device : Device} (a : Known) → IsDevice device
+each_keeps : (laws : InstructionLaws) {device : Device} (a : Known) → IsDevice device
     → AreCells device.ram.lo device.ram.hi device.ram.lo a.cells.cells
     → (width : Width) (set : Form) (list : List ℕ) (v : ℕ) → IsNormal 65536 set
     → Has 65536 set v → Has 65536 (read_each device a width set list) v
@@ -225,7 +225,7 @@ each_keeps laws {device} a is cells width set (at ∷ rest) v normal has =
     each_keeps laws a is cells width (join 65536 set next) rest v (laws.known.sets.join_normal 65536 set next normal next_normal)
     (laws.known.sets.join_first 65536 set next normal next_normal v has)
 
-each_has : (laws : Premises) {device : Device} (a : Known) → IsDevice device
+each_has : (laws : InstructionLaws) {device : Device} (a : Known) → IsDevice device
     → AreCells device.ram.lo device.ram.hi device.ram.lo a.cells.cells
     → (width : Width) (set : Form) (list : List ℕ) (at v : ℕ) → IsNormal 65536 set
     → Contains list at → Has 65536 (read_one device a width at).set v → Has 65536 (read_each device a width set list) v
@@ -240,12 +240,12 @@ each_has laws {device} a is cells width set (first ∷ rest) at v normal there h
       | inr later ↦ each_has laws a is cells width (join 65536 set next) rest at v joined later has
     ]
 
-unknown_held : (laws : Premises) (first : Option Suspended) (width : Width) (v : ℕ) → v < modulus width
+unknown_held : (laws : InstructionLaws) (first : Option Suspended) (width : Width) (v : ℕ) → v < modulus width
     → IsHeld first (unknown (size_of width)) v
 unknown_held laws first Words v small = unknown_word laws first v small
 unknown_held laws first Byte v small = unknown_byte laws first v small
 
-pub list_held : (laws : Premises) {device : Device} (a : Known) {first : Option Suspended} → IsDevice device
+pub list_held : (laws : InstructionLaws) {device : Device} (a : Known) {first : Option Suspended} → IsDevice device
     → AreCells device.ram.lo device.ram.hi device.ram.lo a.cells.cells
     → (width : Width) (list : List ℕ) (at : ℕ) {v : ℕ}
     → v < modulus width → Contains list at → IsHeld first (read_one device a width at) v → IsHeld first (read_list device a width list) v
@@ -270,7 +270,7 @@ list_held laws {device} a {first} is cells width (one ∷ next ∷ rest) at {v} 
     })
     (λ many. unknown_held laws first width v small)
 
-list_normal : (laws : Premises) {device : Device} (a : Known) → IsDevice device
+list_normal : (laws : InstructionLaws) {device : Device} (a : Known) → IsDevice device
     → AreCells device.ram.lo device.ram.hi device.ram.lo a.cells.cells
     → (width : Width) (list : List ℕ) → IsNormal 65536 (read_list device a width list).set
 list_normal laws a is cells width [] = unknown_normal laws width
@@ -280,7 +280,7 @@ list_normal laws {device} a is cells width (one ∷ next ∷ rest) =
     (λ word. IsNormal 65536 word.set)
     (λ few. each_normal laws a is cells width (read_one device a width one).set (next ∷ rest) (one_normal laws a is cells width one)) (λ many. unknown_normal laws width)
 
-pub read_known_normal : (laws : Premises) {device : Device} (a : Known) → IsDevice device
+pub read_known_normal : (laws : InstructionLaws) {device : Device} (a : Known) → IsDevice device
     → AreCells device.ram.lo device.ram.hi device.ram.lo a.cells.cells
     → (width : Width) (set : Form) → IsNormal 65536 (read_known device a width set).set
 read_known_normal laws a is cells width set = list_normal laws a is cells width (members 65536 set)
@@ -291,7 +291,7 @@ pub memory_below : {device : Device} → IsDevice device → (ram : List ℕ) �
 memory_below {device} is ram small = read_below device ram is.bytes (ram_bytes device ram small)
 
 -- what may be read at an address of a set
-pub known_held : (laws : Premises) {device : Device} {a : Known} {first : Option Suspended} {ram : List ℕ} → IsMemory device a first ram
+pub known_held : (laws : InstructionLaws) {device : Device} {a : Known} {first : Option Suspended} {ram : List ℕ} → IsMemory device a first ram
     → (width : Width) {set : Form} {address : ℕ} (x : ℕ) → IsResult 65536 set address
     → MayRead device ram width address x → IsHeld first (read_known device a width (located device width set)) x
 known_held laws {device} {a} {ram} memory width {set} {address} x is reads =

@@ -32,7 +32,7 @@ use Rattle.msp430_state.specs.Known.{Known}
 use Rattle.irq_frames.specs.Ranges.{AreRanges}
 use Rattle.msp430_results.specs.declared.flag_bits.FlagBits.{FlagBits}
 use Rattle.msp430_alu.specs.Memory.{IsDevice, touched_behind, with_store}
-use Rattle.msp430_alu.specs.Premises.{Premises}
+use Rattle.msp430_results.specs.InstructionLaws.{InstructionLaws}
 use Rattle.msp430_alu.specs.Registers.{fact_without, put_register, with_word, with_sp, with_flag_bits}
 use Rattle.msp430_alu.proofs.Putting.{general_put}
 use Rattle.msp430_alu.proofs.Storing.{IsStorable, behind_grows, size_is, some_size}
@@ -51,11 +51,11 @@ word_form {framed} {a} register {word} is form =
     let fact = fact_without_form register a.fact form.fact in
     assumption (count, registers, fact, form)
 
-pub sp_form : (laws : Premises) {lo hi : ℕ} {framed : Bool} {a : Known} (set_so : Form) → IsNormal 65536 set_so
+pub sp_form : (laws : InstructionLaws) {lo hi : ℕ} {framed : Bool} {a : Known} (set_so : Form) → IsNormal 65536 set_so
     → IsKnown lo hi framed a → IsKnown lo hi framed (with_sp a set_so)
 sp_form laws set_so normal form = let sp = even_parts_form laws.known set_so normal in assumption (sp, form)
 
-pub register_form : (laws : Premises) {lo hi : ℕ} {framed : Bool} {a : Known} {register : Register} {word : Word}
+pub register_form : (laws : InstructionLaws) {lo hi : ℕ} {framed : Bool} {a : Known} {register : Register} {word : Word}
     → Kind register → IsWord framed word → IsKnown lo hi framed a
     → IsKnown lo hi framed (put_register a register word)
 register_form laws (Counter e) is form = rw e form
@@ -180,7 +180,7 @@ any_cell_form {framed} map at {width} {word} some even_so is forms c h =
     (λ e there. one_form map place size word stored forms c there)
     (λ e there. several_form framed at size word map.cells forms c there) h
 
-store_touched : (laws : Premises) (device : Device) (framed : Bool) (width : Width) (at : Form) (touched : List (ℕ × ℕ))
+store_touched : (laws : InstructionLaws) (device : Device) (framed : Bool) (width : Width) (at : Form) (touched : List (ℕ × ℕ))
     → device.ram.lo ≤ device.ram.hi
     → AreRanges device.ram.lo device.ram.hi touched
     → AreRanges device.ram.lo device.ram.hi (if framed then touched_behind device.ram.lo device.ram.hi (size_of width) at touched else touched)
@@ -193,7 +193,7 @@ store_none : (device : Device) (framed : Bool) (width : Width) (at : Form) (touc
 store_none device true width at touched none base = absurd (cc)
 store_none device false width at touched none base = none base
 
-pub store_form : (laws : Premises) {device : Device} {framed : Bool} {a : Known} {width : Width} (at : Form) {word : Word}
+pub store_form : (laws : InstructionLaws) {device : Device} {framed : Bool} {a : Known} {width : Width} (at : Form) {word : Word}
     → IsDevice device → 1 ≤ length (members 65536 at)
     → (size_of width ≡ 2 → HasRemainder 65536 2 0 at) → IsCellWord framed width word → IsKnown device.ram.lo device.ram.hi framed a
     → IsKnown device.ram.lo device.ram.hi framed (with_store device framed a width at word)

@@ -39,7 +39,7 @@ use Rattle.msp430_results.specs.FlagSets.{IsResult}
 use Rattle.msp430_alu.specs.Formats.{access_of, access_if, store_of, counter_set, lowered_known, forming_known, double_worked, single_worked, push_worked, IsUnder, IsHit, AreShown}
 use Rattle.msp430_alu.specs.Memory.{located}
 use Rattle.msp430_alu.specs.Operands.{source_reach, destination_reach, grown_known, IsReached}
-use Rattle.msp430_alu.specs.Premises.{Premises}
+use Rattle.msp430_results.specs.InstructionLaws.{InstructionLaws}
 use Rattle.msp430_alu.proofs.Doubles.{counter_is}
 use Rattle.msp430_alu.proofs.Growth.{behind_is, way}
 use Rattle.msp430_alu.proofs.OperandLemmas.{source_reached, destination_reached}
@@ -57,7 +57,7 @@ shown_both items others xs ys h k x within = elim (Contains-append_cases xs ys x
 
 -- ACCESSES
 
-access_shown : (laws : Premises) {device : Device} → HasRam device
+access_shown : (laws : InstructionLaws) {device : Device} → HasRam device
     → (pc : ℕ) (write : Bool) (width : Width) (reach : Reach) (stands : Place) → IsReached reach stands
     → AreShown (access_of device pc write width reach) (access_to device pc write width stands)
 access_shown laws {device} is pc write width (InMemory set_so) (place.InMemory address) reached x within = (
@@ -69,13 +69,13 @@ access_shown laws {device} is pc write width (InMemory set_so) (place.InMemory a
 access_shown laws is pc write width reach (place.InMemory address) reached x within = absurd reached
 access_shown laws is pc write width reach stands reached x within = absurd (in_none x within)
 
-read_shown : (laws : Premises) {device : Device} → HasRam device
+read_shown : (laws : InstructionLaws) {device : Device} → HasRam device
     → (reads : Bool) (pc : ℕ) (width : Width) (reach : Reach) (stands : Place) → IsReached reach stands
     → AreShown (access_if reads device pc false width reach) (reads_if reads device pc width stands)
 read_shown laws is true pc width reach stands reached x within = access_shown laws is pc false width reach stands reached x within
 read_shown laws is false pc width reach stands reached x within = absurd (in_none x within)
 
-write_shown : (laws : Premises) {device : Device} → HasRam device
+write_shown : (laws : InstructionLaws) {device : Device} → HasRam device
     → (writes : Bool) (pc : ℕ) (width : Width) (reach : Reach) (stands : Place) → IsReached reach stands
     → AreShown (access_if writes device pc true width reach) (writes_if writes device pc width stands)
 write_shown laws is true pc width reach stands reached x within = access_shown laws is pc true width reach stands reached x within
@@ -83,7 +83,7 @@ write_shown laws is false pc width reach stands reached x within = absurd (in_no
 
 -- STORES
 
-put_hit : (laws : Premises) {device : Device} → HasRam device
+put_hit : (laws : InstructionLaws) {device : Device} → HasRam device
     → (registers ram : List ℕ) (width : Width) (reach : Reach) (stands : Place) (value at : ℕ) → IsReached reach stands
     → (put device registers ram width stands value).hit ≡ Some at
     → IsHit device width (store_of true device width reach) at
@@ -92,7 +92,7 @@ put_hit laws {device} is registers ram width (InMemory set_so) (place.InMemory a
 put_hit laws is registers ram width reach (place.InMemory address) value at reached e = absurd reached
 put_hit laws is registers ram width reach stands value at reached e = absurd (cc)
 
-put_if_hit : (laws : Premises) {device : Device} → HasRam device
+put_if_hit : (laws : InstructionLaws) {device : Device} → HasRam device
     → (registers ram : List ℕ) (writes : Bool) (width : Width) (reach : Reach) (stands : Place) (value at : ℕ)
     → IsReached reach stands
     → (put_if writes device registers ram width stands value).hit ≡ Some at → IsHit device width (store_of writes device width reach) at
@@ -101,7 +101,7 @@ put_if_hit laws is registers ram false width reach stands value at reached e = a
 
 -- TWO OPERANDS
 
-pub double_shown : (laws : Premises) (device : Device) (framed : Bool) (a : Known) (s : ChipState) (first : Option ChipState) (len : ℕ) (done : Operation) (width : Width)
+pub double_shown : (laws : InstructionLaws) (device : Device) (framed : Bool) (a : Known) (s : ChipState) (first : Option ChipState) (len : ℕ) (done : Operation) (width : Width)
     (origin : Source) (target : Destination) (outcome : Outcome ChipState)
     → IsUnder device framed a s first → IsSource origin → IsDestination target
     → (may : MayDouble device s len done width origin target outcome)
@@ -124,7 +124,7 @@ double_shown laws device framed a s first len done width origin target outcome u
     (shown_both (access_of device pc false width from) reads (access_to device pc false width one) reads_so (access_shown laws under.device_so.ram pc false width from one way.source)
     (read_shown laws under.device_so.ram (reads_destination done) pc width to two goal)) (write_shown laws under.device_so.ram (writes_result done) pc width to two goal)
 
-pub double_hit : (laws : Premises) (device : Device) (framed : Bool) (a : Known) (s : ChipState) (first : Option ChipState) (len : ℕ) (done : Operation) (width : Width)
+pub double_hit : (laws : InstructionLaws) (device : Device) (framed : Bool) (a : Known) (s : ChipState) (first : Option ChipState) (len : ℕ) (done : Operation) (width : Width)
     (origin : Source) (target : Destination) (outcome : Outcome ChipState) (at : ℕ)
     → IsUnder device framed a s first → IsSource origin → IsDestination target
     → (may : MayDouble device s len done width origin target outcome) → may.left.hit ≡ Some at
@@ -143,7 +143,7 @@ double_hit laws device framed a s first len done width origin target outcome at 
 
 -- ONE OPERAND
 
-pub single_shown : (laws : Premises) (device : Device) (framed : Bool) (a : Known) (s : ChipState) (first : Option ChipState) (len : ℕ) (done : SingleOperation) (width : Width)
+pub single_shown : (laws : InstructionLaws) (device : Device) (framed : Bool) (a : Known) (s : ChipState) (first : Option ChipState) (len : ℕ) (done : SingleOperation) (width : Width)
     (operand : Source)
     → IsUnder device framed a s first → IsSource operand
     → AreShown (single_worked device framed a (register_of s 0) len done width operand).accesses
@@ -157,7 +157,7 @@ single_shown laws device framed a s first len done width operand under from_so =
     shown_both (access_of device pc false width from) (access_of device pc true width from) (access_to device pc false width one) (access_to device pc true width one)
     (access_shown laws under.device_so.ram pc false width from one reached) (access_shown laws under.device_so.ram pc true width from one reached)
 
-pub single_hit : (laws : Premises) (device : Device) (framed : Bool) (a : Known) (s : ChipState) (first : Option ChipState) (len : ℕ) (done : SingleOperation) (width : Width)
+pub single_hit : (laws : InstructionLaws) (device : Device) (framed : Bool) (a : Known) (s : ChipState) (first : Option ChipState) (len : ℕ) (done : SingleOperation) (width : Width)
     (operand : Source) (outcome : Outcome ChipState) (at : ℕ)
     → IsUnder device framed a s first → IsSource operand → (may : MaySingle device s len done width operand outcome)
     → may.left.hit ≡ Some at
@@ -174,7 +174,7 @@ single_hit laws device framed a s first len done width operand outcome at under 
 
 -- PUSH AND CALL
 
-pub push_shown : (laws : Premises) (device : Device) (framed : Bool) (a : Known) (s : ChipState) (first : Option ChipState) (len : ℕ) (done : SingleOperation) (width : Width)
+pub push_shown : (laws : InstructionLaws) (device : Device) (framed : Bool) (a : Known) (s : ChipState) (first : Option ChipState) (len : ℕ) (done : SingleOperation) (width : Width)
     (operand : Source) (outcome : Outcome ChipState)
     → IsUnder device framed a s first → IsSource operand → (may : MayPush device s len done width operand outcome)
     → AreShown (push_worked device framed a (register_of s 0) len done width operand).accesses
@@ -192,7 +192,7 @@ push_shown laws device framed a s first len done width operand outcome under fro
     shown_both (access_of device pc false width from) (access_of device pc true Words slot) (access_to device pc false width one) (access_to device pc true Words two)
     (access_shown laws under.device_so.ram pc false width from one source) (access_shown laws under.device_so.ram pc true Words slot two goal)
 
-plain_hit : (laws : Premises) {device : Device} → HasRam device
+plain_hit : (laws : InstructionLaws) {device : Device} → HasRam device
     → (registers ram : List ℕ) (width : Width) (x word at : ℕ) (left : Left) {slot : Form}
     → IsResult 65536 slot (lowered (get_or registers 1 0))
     → left ≡ pushed device registers ram word → left.hit ≡ Some at → IsHit device Words (store_of true device Words (InMemory slot)) at
@@ -200,7 +200,7 @@ plain_hit laws known registers ram width x word at left {slot} goal is e =
     put_hit laws known (set registers 1 (lowered (get_or registers 1 0))) ram Words (InMemory slot) (place.InMemory (lowered (get_or registers 1 0))) word at goal
     (sym (ap (λ (l : Left). l.hit) is) ∙ e)
 
-either_hit : (laws : Premises) {device : Device} → HasRam device
+either_hit : (laws : InstructionLaws) {device : Device} → HasRam device
     → (registers ram : List ℕ) (done : SingleOperation) (width : Width) (x after at : ℕ) (left : Left) {slot : Form}
     → IsResult 65536 slot (lowered (get_or registers 1 0))
     → MayLeavePush device ram registers done width x after left → left.hit ≡ Some at
@@ -211,7 +211,7 @@ either_hit laws known registers ram Call width x after at left {slot} goal is e 
     plain_hit laws known (set registers 0 (x - x % 2)) ram width x after at left (subst (IsResult 65536 slot) kept goal) is e
 either_hit laws known registers ram other width x after at left goal (word, may, is) e = plain_hit laws known registers ram width x word at left goal is e
 
-pub push_hit : (laws : Premises) (device : Device) (framed : Bool) (a : Known) (s : ChipState) (first : Option ChipState) (len : ℕ) (done : SingleOperation) (width : Width)
+pub push_hit : (laws : InstructionLaws) (device : Device) (framed : Bool) (a : Known) (s : ChipState) (first : Option ChipState) (len : ℕ) (done : SingleOperation) (width : Width)
     (operand : Source) (outcome : Outcome ChipState) (at : ℕ)
     → IsUnder device framed a s first → IsSource operand → (may : MayPush device s len done width operand outcome) → may.left.hit ≡ Some at
     → IsHit device Words (push_worked device framed a (register_of s 0) len done width operand).store at

@@ -23,7 +23,7 @@ use Rattle.msp430_state.specs.Known.{Known}
 use Rattle.msp430_alu.specs.Formats.{carry_of, put_known, next_by, single_worked, LeavesStatusAlone, IsUnder, IsLeft}
 use Rattle.msp430_results.specs.Words.{values_of, written_word}
 use Rattle.msp430_alu.specs.Operands.{source_reach, grown_known, operand_word}
-use Rattle.msp430_alu.specs.Premises.{Premises}
+use Rattle.msp430_results.specs.InstructionLaws.{InstructionLaws}
 use Rattle.msp430_alu.specs.Registers.{with_flag_bits}
 use Rattle.msp430_results.specs.Results.{single_made, HasWidth}
 use Rattle.msp430_alu.proofs.DoubleLaw.{carry_bit, flags_put}
@@ -38,7 +38,7 @@ no_status : (pc : ℕ) (registers : List ℕ) (operand : Source) → LeavesStatu
 no_status pc registers (source.Register Sr) leaves = absurd leaves
 no_status pc registers other leaves = refl
 
-pub single_law : (laws : Premises) (device : Device) (framed : Bool) (a : Known) (s : ChipState) (first : Option ChipState) (len : ℕ) (done : SingleOperation) (width : Width)
+pub single_law : (laws : InstructionLaws) (device : Device) (framed : Bool) (a : Known) (s : ChipState) (first : Option ChipState) (len : ℕ) (done : SingleOperation) (width : Width)
     (operand : Source) (outcome : Outcome ChipState)
     → IsUnder device framed a s first → IsSource operand → LeavesStatusAlone operand → HasWidth done width
     → (may : MaySingle device s len done width operand outcome)

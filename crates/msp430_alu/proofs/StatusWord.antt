@@ -17,7 +17,7 @@ use Rattle.msp430_state.specs.declared.status.Status.{Status}
 use Rattle.msp430_state.specs.Forms.{IsStatusRelation}
 use Rattle.msp430_state.specs.Holding.{suspended_of, HoldsOfStatus}
 use Rattle.std.specs.Option.{option_map}
-use Rattle.msp430_alu.specs.Premises.{Premises}
+use Rattle.msp430_results.specs.InstructionLaws.{InstructionLaws}
 use Rattle.msp430_alu.specs.Registers.{status_set}
 
 -- the relation of SR with other bits 9 to 15
@@ -57,7 +57,7 @@ relation_under framed (Some f) entry sr x form small few holds = relation_wider 
 relation_under framed None None sr x form small few holds = tt
 relation_under framed None (Some entry) sr x form small few holds = absurd holds
 
-pub status_set_is : (laws : Premises) (framed : Bool) (first : Option ChipState) (status : Status) (sr x : ℕ)
+pub status_set_is : (laws : InstructionLaws) (framed : Bool) (first : Option ChipState) (status : Status) (sr x : ℕ)
     → length status.bits ≡ 9 → IsStatusRelation framed status.entry
     → sr < 512 → x < 128
     → HoldsOfStatus (option_map suspended_of first) status sr

@@ -6,7 +6,6 @@ use Rattle.std.proofs.lemmas.Bool.{and_parts, and_from, or_right, or_left, or_fr
 use Rattle.std.proofs.Math.Nat.{mod-eq_of_lt, mul-le-mul_right}
 use Rattle.std.proofs.lemmas.List.{length-set}
 use Rattle.std.proofs.lemmas.List.Elements.{All-get_or, All-set}
-use Rattle.msp430_alu.proofs.WhereAccesses.{aligned_fits}
 use Rattle.plain_lemmas.specs.Members.{in_none, in_cons}
 use Rattle.entry_value.specs.declared.word.Word.{Word}
 use Rattle.entry_value.specs.Cells.{CellMap, AreCells, StandsUnder, write_any, written}
@@ -28,7 +27,7 @@ use Rattle.msp430_state.specs.Known.{Known}
 use Rattle.irq_frames.specs.Ranges.{AreRanges, has_address, lies_in, with_range}
 use Rattle.msp430_results.specs.FlagSets.{IsResult}
 use Rattle.msp430_alu.specs.Memory.{IsDevice, IsRam, touch, touch_each, touched_behind, with_store}
-use Rattle.msp430_alu.specs.Premises.{Premises}
+use Rattle.msp430_results.specs.InstructionLaws.{InstructionLaws}
 
 -- BYTES OF RAM
 
@@ -102,7 +101,7 @@ stored_ram device ram Words address value small is =
 stored_ram device ram Byte address value small is = byte_ram (aligned device Byte address) value small is
 
 -- a RAM behind a store and behind a write of cells agree
-agrees_there : (laws : Premises) {device : Device} → HasRam device → {ram : List ℕ} (width : Width) (address value : ℕ)
+agrees_there : (laws : InstructionLaws) {device : Device} → HasRam device → {ram : List ℕ} (width : Width) (address value : ℕ)
     → address < 65536 → value < modulus width
     → IsRam device ram → (b : ℕ) → device.ram.lo ≤ b → b ≤ device.ram.hi
     → written (ram_byte device ram) (aligned device width address) (size_of width) value b ≡ ram_byte device (with_stored device ram width address value) b
@@ -119,7 +118,7 @@ agrees_there laws {device} where_so {ram} Byte address value below small is b lo
     ]
 agrees_there laws {device} where_so {ram} Words address value below small is b low high =
     let at = aligned device Words address in
-    let fits = aligned_fits laws where_so Words address below in
+    let fits = laws.places.fits device Words address where_so below in
     let next : (at + 1) % 65536 ≡ at + 1 = omega (arith, fits) in
     let first = with_byte device ram at (value % 256) in
     let rest = if b == (at + 1) % 65536 then value / 256 else ram_byte device ram b in
@@ -156,7 +155,7 @@ pub record IsStorable (width : Width) (word : Word) : Type 0 where
   pub normal : IsNormal 65536 word.set
   pub byte : size_of width ≡ 1 → (n : ℕ) → Has 65536 word.set n → n < 256
 
-cells_stored : (laws : Premises) {device : Device} (map : CellMap) (first : Option Suspended) {ram : List ℕ} {width : Width} {set_so : Form} (address value : ℕ) {word : Word}
+cells_stored : (laws : InstructionLaws) {device : Device} (map : CellMap) (first : Option Suspended) {ram : List ℕ} {width : Width} {set_so : Form} (address value : ℕ) {word : Word}
     → IsDevice device → IsRam device ram
     → map.lo ≡ device.ram.lo → map.hi ≡ device.ram.hi → AreCells device.ram.lo device.ram.hi device.ram.lo map.cells → address < 65536
     → IsResult 65536 set_so (aligned device width address)
@@ -177,12 +176,12 @@ cells_stored laws {device} map first {ram} {width} {set_so} address value {word}
 
 -- TOUCHED BYTES
 
-has_more : (from hi b low high : ℕ) (ranges : List (ℕ × ℕ)) → (laws : Premises) → low ≤ high → AreRanges from hi ranges
+has_more : (from hi b low high : ℕ) (ranges : List (ℕ × ℕ)) → (laws : InstructionLaws) → low ≤ high → AreRanges from hi ranges
     → has_address ranges b ≡ true
     → has_address (with_range low high ranges) b ≡ true
 has_more from hi b low high ranges laws le are has = laws.known.ranges.add from hi b low high ranges le are ∙ or_left (has_address ranges b) (lies_in (b, b) (low, high)) has
 
-has_new : (from hi b low high : ℕ) (ranges : List (ℕ × ℕ)) → (laws : Premises) → AreRanges from hi ranges → low ≤ b
+has_new : (from hi b low high : ℕ) (ranges : List (ℕ × ℕ)) → (laws : InstructionLaws) → AreRanges from hi ranges → low ≤ b
     → b ≤ high → has_address (with_range low high ranges) b ≡ true
 has_new from hi b low high ranges laws are h k = laws.known.ranges.add from hi b low high ranges (omega arith) are
     ∙ or_right (has_address ranges b) (lies_in (b, b) (low, high)) (and_from (nat_le low b) (nat_le b high) (le-leb low b h) (le-leb b high k))
@@ -195,7 +194,7 @@ pub record Grows (lo hi : ℕ) (before after : List (ℕ × ℕ)) : Type 0 where
 grows_on : {lo hi : ℕ} {one two three : List (ℕ × ℕ)} → Grows lo hi one two → Grows lo hi two three → Grows lo hi one three
 grows_on h k = record { form = k.form; keeps = λ b has. k.keeps b (h.keeps b has) }
 
-touch_grows : (laws : Premises) (lo hi first last : ℕ) (touched : List (ℕ × ℕ)) → lo ≤ hi → first ≤ last → AreRanges lo hi touched
+touch_grows : (laws : InstructionLaws) (lo hi first last : ℕ) (touched : List (ℕ × ℕ)) → lo ≤ hi → first ≤ last → AreRanges lo hi touched
     → Grows lo hi touched (touch lo hi first last touched)
 touch_grows laws lo hi first last touched le up are =
     cond_both (nat_lt last lo || nat_lt hi first) touched (with_range (max lo first) (min hi last) touched) (Grows lo hi touched)
@@ -216,7 +215,7 @@ no_meeting lo hi first last b low high after before e =
     let both : (nat_lt last lo || nat_lt hi first) ≡ false = or_from (nat_lt last lo) (nat_lt hi first) one two in
     absurd (cc)
 
-touch_has : (laws : Premises) (lo hi first last b : ℕ) (touched : List (ℕ × ℕ)) → AreRanges lo hi touched → lo ≤ b
+touch_has : (laws : InstructionLaws) (lo hi first last b : ℕ) (touched : List (ℕ × ℕ)) → AreRanges lo hi touched → lo ≤ b
     → b ≤ hi → first ≤ b → b ≤ last
     → has_address (touch lo hi first last touched) b ≡ true
 touch_has laws lo hi first last b touched are low high after before =
@@ -224,14 +223,14 @@ touch_has laws lo hi first last b touched are low high after before =
     (λ e. absurd (no_meeting lo hi first last b low high after before e))
     (λ e. has_new lo hi b (max lo first) (min hi last) touched laws are (omega arith) (omega arith))
 
-each_grows : (laws : Premises) (lo hi size : ℕ) (list : List ℕ) (touched : List (ℕ × ℕ)) → lo ≤ hi → 1 ≤ size → AreRanges lo hi touched
+each_grows : (laws : InstructionLaws) (lo hi size : ℕ) (list : List ℕ) (touched : List (ℕ × ℕ)) → lo ≤ hi → 1 ≤ size → AreRanges lo hi touched
     → Grows lo hi touched (touch_each lo hi size list touched)
 each_grows laws lo hi size [] touched le some are = record { form = are; keeps = λ b has. has }
 each_grows laws lo hi size (at ∷ rest) touched le some are =
     let one = touch_grows laws lo hi at (at + size - 1) touched le (omega arith) are in
     grows_on one (each_grows laws lo hi size rest (touch lo hi at (at + size - 1) touched) le some one.form)
 
-each_touched : (laws : Premises) (lo hi size at b : ℕ) (list : List ℕ) (touched : List (ℕ × ℕ)) → 1 ≤ size
+each_touched : (laws : InstructionLaws) (lo hi size at b : ℕ) (list : List ℕ) (touched : List (ℕ × ℕ)) → 1 ≤ size
     → AreRanges lo hi touched → Contains list at → lo ≤ b → b ≤ hi → at ≤ b
     → b ≤ at + size - 1
     → has_address (touch_each lo hi size list touched) b ≡ true
@@ -246,7 +245,7 @@ each_touched laws lo hi size at b (first ∷ rest) touched some are there low hi
       | inr later ↦ each_touched laws lo hi size at b rest next some one.form later low high after before
     ]
 
-pub behind_grows : (laws : Premises) (lo hi size : ℕ) (set_so : Form) (touched : List (ℕ × ℕ)) → lo ≤ hi → 1 ≤ size
+pub behind_grows : (laws : InstructionLaws) (lo hi size : ℕ) (set_so : Form) (touched : List (ℕ × ℕ)) → lo ≤ hi → 1 ≤ size
     → AreRanges lo hi touched
     → Grows lo hi touched (touched_behind lo hi size set_so touched)
 behind_grows laws lo hi size (Values xs) touched le some are = each_grows laws lo hi size xs touched le some are
@@ -255,7 +254,7 @@ behind_grows laws lo hi size (Run p) touched le some are =
     (λ e. record { form = laws.known.ranges.add_form lo hi lo hi touched (omega arith) le (omega arith) are; keeps = λ b has. has_more lo hi b lo hi touched laws le are has })
     (λ e. touch_grows laws lo hi p.base (p.base + reach p + size - 1) touched le (omega arith) are)
 
-behind_touched : (laws : Premises) (lo hi size at b : ℕ) (set_so : Form) (touched : List (ℕ × ℕ)) → 1 ≤ size
+behind_touched : (laws : InstructionLaws) (lo hi size at b : ℕ) (set_so : Form) (touched : List (ℕ × ℕ)) → 1 ≤ size
     → AreRanges lo hi touched → Has 65536 set_so at → lo ≤ b → b ≤ hi
     → at ≤ b → b ≤ at + size - 1
     → has_address (touched_behind lo hi size set_so touched) b ≡ true
@@ -287,7 +286,7 @@ pub some_size : (width : Width) → 1 ≤ size_of width
 some_size Words = omega arith
 some_size Byte = omega arith
 
-stays_untouched : (laws : Premises) {device : Device} (ram : List ℕ) (width : Width) (address value : ℕ) (set_so : Form) (touched : List (ℕ × ℕ)) (f : ChipState)
+stays_untouched : (laws : InstructionLaws) {device : Device} (ram : List ℕ) (width : Width) (address value : ℕ) (set_so : Form) (touched : List (ℕ × ℕ)) (f : ChipState)
     → IsDevice device
     → AreRanges device.ram.lo device.ram.hi touched → Has 65536 set_so (aligned device width address)
     → KeepsUntouched device touched ram (Some f) → (b : ℕ)
@@ -305,7 +304,7 @@ stays_untouched laws {device} ram width address value set_so touched f is are ha
     ] in
     same ∙ keeps b before
 
-store_untouched : (laws : Premises) {device : Device} (framed : Bool) (ram : List ℕ) (width : Width) (address value : ℕ) (set_so : Form) (touched : List (ℕ × ℕ))
+store_untouched : (laws : InstructionLaws) {device : Device} (framed : Bool) (ram : List ℕ) (width : Width) (address value : ℕ) (set_so : Form) (touched : List (ℕ × ℕ))
     (first : Option ChipState) → IsDevice device
     → (framed ≡ false → first ≡ None) → AreRanges device.ram.lo device.ram.hi touched
     → Has 65536 set_so (aligned device width address) → KeepsUntouched device touched ram first
@@ -316,7 +315,7 @@ store_untouched laws true ram width address value set_so touched (Some f) is bas
 store_untouched laws false ram width address value set_so touched (Some f) is base are has keeps = let none = base refl in absurd (cc)
 
 -- what is known behind a store holds behind it
-pub store_holds : (laws : Premises) {device : Device} {framed : Bool} {a : Known} {first : Option ChipState} {registers ram : List ℕ} {width : Width} (address value : ℕ)
+pub store_holds : (laws : InstructionLaws) {device : Device} {framed : Bool} {a : Known} {first : Option ChipState} {registers ram : List ℕ} {width : Width} (address value : ℕ)
     {set_so : Form} {word : Word} → IsDevice device → IsRam device ram
     → (framed ≡ false → first ≡ None) → IsKnown device.ram.lo device.ram.hi framed a → address < 65536
     → IsResult 65536 set_so (aligned device width address)

@@ -17,7 +17,7 @@ use Rattle.msp430_chip.specs.State.{even}
 use Rattle.msp430_state.specs.Forms.{AreEvenWords}
 use Rattle.msp430_results.specs.FlagSets.{IsResult}
 use Rattle.msp430_alu.specs.Memory.{canonical_by, located, moved, of_both}
-use Rattle.msp430_alu.specs.Premises.{Premises}
+use Rattle.msp430_results.specs.InstructionLaws.{InstructionLaws}
 use Rattle.msp430_alu.specs.NumberFacts.{add_is, moved_normal, join_first_is, join_second_is, single_is, even_parts_is, even_parts_form, sum_even}
 
 -- PARTS OF A SET
@@ -32,7 +32,7 @@ IsIf P None = Unit {0}
 IsIf P (Some set) = P set
 
 -- what a window cuts out has the numbers of the window
-cut_there : (laws : Premises) {set : Form} (low len : ℕ) {v : ℕ} (found : Option Form) → cut 65536 set low len ≡ found
+cut_there : (laws : InstructionLaws) {set : Form} (low len : ℕ) {v : ℕ} (found : Option Form) → cut 65536 set low len ≡ found
     → low < 65536 → IsResult 65536 set v
     → above 65536 low v < len → IsThere found v
 cut_there laws {set} low len {v} None is small result lt =
@@ -43,7 +43,7 @@ cut_there laws {set} low len {v} (Some part) is small result lt =
       has = laws.known.sets.cut_holds 65536 low len v set part result.normal small is result.has lt;
     }
 
-moved_there : (laws : Premises) (by v : ℕ) (found : Option Form) → by < 65536 → IsThere found v
+moved_there : (laws : InstructionLaws) (by v : ℕ) (found : Option Form) → by < 65536 → IsThere found v
     → IsThere (moved by found) ((v + by) % 65536)
 moved_there laws by v None small there = absurd there
 moved_there laws by v (Some part) small there = add_is laws.known 65536 v by part (single by) there (single_is laws.known 65536 by small)
@@ -54,14 +54,14 @@ record IsKept (P : Form → Type 0) : Type 0 where
   moves : (set : Form) (by : ℕ) → by < 65536 → by % 2 ≡ 0 → P set → P (add 65536 set (single by))
   joins : (a b : Form) → P a → P b → P (join 65536 a b)
 
-normal_kept : (laws : Premises) → IsKept (IsNormal 65536)
+normal_kept : (laws : InstructionLaws) → IsKept (IsNormal 65536)
 normal_kept laws = record {
   cuts = λ set part low len small is normal. laws.known.sets.cut_normal 65536 low len set part normal small is;
   moves = λ set by small no_bit. moved_normal laws.known set by small;
   joins = laws.known.sets.join_normal 65536;
 }
 
-even_kept : (laws : Premises) → IsKept AreEvenWords
+even_kept : (laws : InstructionLaws) → IsKept AreEvenWords
 even_kept laws = record {
   cuts = λ set part low len small is words. record {
     normal = laws.known.sets.cut_normal 65536 low len set part words.normal small is;
@@ -84,14 +84,14 @@ moved_if : (P : Form → Type 0) → IsKept P → (by : ℕ) (found : Option For
 moved_if P kept by None small no_bit holds = tt
 moved_if P kept by (Some part) small no_bit holds = kept.moves part by small no_bit holds
 
-first_there : (laws : Premises) (set : Form) (one other : Option Form) (v : ℕ) → IsThere one v → IsIf (IsNormal 65536) other
+first_there : (laws : InstructionLaws) (set : Form) (one other : Option Form) (v : ℕ) → IsThere one v → IsIf (IsNormal 65536) other
     → IsResult 65536 (of_both set (join_parts 65536 one other)) v
 first_there laws set None other v there normal = absurd there
 first_there laws set (Some a) None v there normal = there
 first_there laws set (Some a) (Some b) v there normal =
     join_first_is laws.known 65536 v a b there normal
 
-second_there : (laws : Premises) (set : Form) (one other : Option Form) (v : ℕ) → IsIf (IsNormal 65536) one → IsThere other v
+second_there : (laws : InstructionLaws) (set : Form) (one other : Option Form) (v : ℕ) → IsIf (IsNormal 65536) one → IsThere other v
     → IsResult 65536 (of_both set (join_parts 65536 one other)) v
 second_there laws set one None v normal there = absurd there
 second_there laws set None (Some b) v normal there = there
@@ -119,7 +119,7 @@ outside_window first last v up end small outside = elim (cases_Bool (nat_le firs
 -- THE MIRROR
 
 -- the address that a number of the set stands for is one of the canonical set's
-canonical_is : (laws : Premises) (lo hi : ℕ) (mirror : Option (ℕ × ℕ)) {set : Form} {v : ℕ} → lo < hi → hi < 65536
+canonical_is : (laws : InstructionLaws) (lo hi : ℕ) (mirror : Option (ℕ × ℕ)) {set : Form} {v : ℕ} → lo < hi → hi < 65536
     → lo % 2 ≡ 0 → HasMirror lo hi mirror → IsResult 65536 set v
     → IsResult 65536 (canonical_by lo mirror set) (canon_by lo mirror v)
 canonical_is laws lo hi None some top even_lo is result = result
@@ -176,36 +176,27 @@ canonical_kept P kept lo hi (Some (first, last)) set even_lo is holds =
 
 -- WHERE ACCESSES ARE MADE
 
--- a word's is even
-pub aligned_even : (laws : Premises) {device : Device} → HasRam device → (at : ℕ) → aligned device Words at % 2 ≡ 0
-aligned_even laws {device} is at = laws.made_even device at is
-
--- the bytes of an access stand below 65536
-pub aligned_fits : (laws : Premises) {device : Device} → HasRam device → (width : Width) (at : ℕ) → at < 65536
-    → aligned device width at + size_of width ≤ 65536
-aligned_fits laws {device} is width at small = laws.made_fits device width at is small
-
-pub located_is : (laws : Premises) {device : Device} → HasRam device → (width : Width) {set : Form} {address : ℕ}
+pub located_is : (laws : InstructionLaws) {device : Device} → HasRam device → (width : Width) {set : Form} {address : ℕ}
     → IsResult 65536 set address
     → IsResult 65536 (located device width set) (aligned device width address)
 located_is laws {device} is Words {set} {address} result =
     canonical_is laws device.ram.lo device.ram.hi device.ram.mirror is.some is.top is.low is.mirror (even_parts_is laws.known set address result)
 located_is laws {device} is Byte result = canonical_is laws device.ram.lo device.ram.hi device.ram.mirror is.some is.top is.low is.mirror result
 
-pub located_normal : (laws : Premises) {device : Device} → HasRam device → (width : Width) (set : Form)
+pub located_normal : (laws : InstructionLaws) {device : Device} → HasRam device → (width : Width) (set : Form)
     → IsNormal 65536 set → IsNormal 65536 (located device width set)
 located_normal laws {device} is Words set normal =
     canonical_kept (IsNormal 65536) (normal_kept laws) device.ram.lo device.ram.hi device.ram.mirror _ is.low is.mirror (even_parts_form laws.known set normal).normal
 located_normal laws {device} is Byte set normal = canonical_kept (IsNormal 65536) (normal_kept laws) device.ram.lo device.ram.hi device.ram.mirror set is.low is.mirror normal
 
-pub located_even : (laws : Premises) {device : Device} → HasRam device → (width : Width) (set : Form)
+pub located_even : (laws : InstructionLaws) {device : Device} → HasRam device → (width : Width) (set : Form)
     → IsNormal 65536 set → size_of width ≡ 2
     → HasRemainder 65536 2 0 (located device width set)
 located_even laws {device} is Words set normal e =
     (canonical_kept AreEvenWords (even_kept laws) device.ram.lo device.ram.hi device.ram.mirror _ is.low is.mirror (even_parts_form laws.known set normal)).even
 located_even laws is Byte set normal e = absurd (omega (arith, e))
 
-pub located_fits : (laws : Premises) (device : Device) → HasRam device → (width : Width) (set : Form) (v : ℕ)
+pub located_fits : (laws : InstructionLaws) (device : Device) → HasRam device → (width : Width) (set : Form) (v : ℕ)
     → IsNormal 65536 set → Has 65536 (located device width set) v
     → v + size_of width ≤ 65536
 located_fits laws device is Words set v normal has =

@@ -15,7 +15,7 @@ use Rattle.msp430_state.specs.Forms.{IsKnown, IsStatusRelation, IsWord}
 use Rattle.msp430_state.specs.Holding.{suspended_of, HoldsOfParts}
 use Rattle.msp430_state.specs.Known.{Known}
 use Rattle.msp430_alu.specs.Memory.{IsDevice, IsRam, located, read_known, with_store}
-use Rattle.msp430_alu.specs.Premises.{Premises}
+use Rattle.msp430_results.specs.InstructionLaws.{InstructionLaws}
 use Rattle.msp430_alu.specs.Registers.{status_set}
 use Rattle.msp430_alu.proofs.WhereAccesses.{located_even, located_is, located_normal}
 use Rattle.msp430_alu.proofs.ReadingLemmas.{IsMemory, known_held, read_known_normal}
@@ -23,13 +23,13 @@ use Rattle.msp430_alu.proofs.Shapes.{store_form}
 use Rattle.msp430_alu.proofs.Storing.{store_holds}
 use Rattle.msp430_alu.proofs.WorkedForms.{list_relation, status_normal, status_relation}
 
-pub word_located : (laws : Premises) (device : Device) (set : Form) (at : ℕ) → HasRam device → IsNormal 65536 set → Has 65536 set at
+pub word_located : (laws : InstructionLaws) (device : Device) (set : Form) (at : ℕ) → HasRam device → IsNormal 65536 set → Has 65536 set at
     → Has 65536 (located device Words set) (aligned device Words at)
 word_located laws device set at is normal has = (located_is laws is Words (record { normal = normal; has = has })).has
 
 -- STORES
 
-pub word_stored : (laws : Premises) (device : Device) (framed : Bool) (a : Known) (first : Option ChipState) (registers ram : List ℕ) (set : Form) (at v : ℕ) (word : Word)
+pub word_stored : (laws : InstructionLaws) (device : Device) (framed : Bool) (a : Known) (first : Option ChipState) (registers ram : List ℕ) (set : Form) (at v : ℕ) (word : Word)
     → IsDevice device → IsRam device ram
     → (framed ≡ false → first ≡ None) → IsKnown device.ram.lo device.ram.hi framed a → IsNormal 65536 set
     → Has 65536 set at → IsWord framed word
@@ -41,7 +41,7 @@ word_stored laws device framed a first registers ram set at v word is ram_is bas
     (located_is laws is.ram Words (record { normal = normal; has = has }))
     (laws.known.sets.below 65536 v word.set word_so.normal holds.0) (record { normal = word_so.normal; byte = λ e. absurd (omega (arith, e)) }) holds parts
 
-pub word_stored_form : (laws : Premises) (device : Device) (framed : Bool) (a : Known) (set : Form) (word : Word)
+pub word_stored_form : (laws : InstructionLaws) (device : Device) (framed : Bool) (a : Known) (set : Form) (word : Word)
     → IsDevice device → IsKnown device.ram.lo device.ram.hi framed a
     → IsNormal 65536 set → IsWord framed word
     → IsKnown device.ram.lo device.ram.hi framed (with_store device framed a Words (located device Words set) word)
@@ -52,7 +52,7 @@ word_stored_form laws device framed a set word is form normal word_so =
 
 -- READS
 
-pub word_read : (laws : Premises) (device : Device) (framed : Bool) (a : Known) (first : Option ChipState) (registers ram : List ℕ) (set : Form) (at word : ℕ)
+pub word_read : (laws : InstructionLaws) (device : Device) (framed : Bool) (a : Known) (first : Option ChipState) (registers ram : List ℕ) (set : Form) (at word : ℕ)
     → IsDevice device
     → IsKnown device.ram.lo device.ram.hi framed a → IsNormal 65536 set → Has 65536 set at → HoldsOfParts device a first registers ram
     → MayReadWord device ram at word
@@ -62,7 +62,7 @@ word_read laws device framed a first registers ram set at word is form normal ha
     let memory : IsMemory device a under ram = record { device_so = is; cells = form.cells; stands = parts.cells } in
     (known_held laws memory Words word (record { normal = normal; has = has }) reads).holds
 
-pub word_read_form : (laws : Premises) (device : Device) (framed : Bool) (a : Known) (set : Form) → IsDevice device
+pub word_read_form : (laws : InstructionLaws) (device : Device) (framed : Bool) (a : Known) (set : Form) → IsDevice device
     → IsKnown device.ram.lo device.ram.hi framed a
     → IsWord framed (read_known device a Words set)
 word_read_form laws device framed a set is form = record {
@@ -72,6 +72,6 @@ word_read_form laws device framed a set is form = record {
 
 -- SR
 
-pub status_word_form : (laws : Premises) (framed : Bool) (status : Status) → length status.bits ≡ 9 → IsStatusRelation framed status.entry
+pub status_word_form : (laws : InstructionLaws) (framed : Bool) (status : Status) → length status.bits ≡ 9 → IsStatusRelation framed status.entry
     → IsWord framed (record { set = status_set status; entry = status.entry })
 status_word_form laws framed status long form = record { normal = status_normal laws status long; entry = status_relation framed status.entry form }

@@ -50,7 +50,7 @@ use Rattle.msp430_results.specs.Words.{values_of, written_word}
 use Rattle.msp430_results.specs.FlagSets.{MadeSet}
 use Rattle.msp430_alu.specs.Memory.{IsDevice, located, word_by, byte_by, program_word, read_one, read_each, read_list}
 use Rattle.msp430_alu.specs.Operands.{beside, source_reach, destination_reach, grown_known, operand_word}
-use Rattle.msp430_alu.specs.Premises.{Premises}
+use Rattle.msp430_results.specs.InstructionLaws.{InstructionLaws}
 use Rattle.msp430_alu.specs.Registers.{even_parts, status_set, register_word, with_flag_bits, with_sp}
 use Rattle.msp430_results.specs.Results.{double_made, single_made, twice_flags, HasWidth}
 use Rattle.msp430_alu.proofs.Growth.{growth_small}
@@ -61,7 +61,7 @@ use Rattle.msp430_alu.proofs.Shapes.{IsCellWord, register_form, sp_form, flags_f
 
 -- REGISTERS AS OPERANDS
 
-pub status_normal : (laws : Premises) (status : StatusBits) → length status.bits ≡ 9 → IsNormal 65536 (status_set status)
+pub status_normal : (laws : InstructionLaws) (status : StatusBits) → length status.bits ≡ 9 → IsNormal 65536 (status_set status)
 status_normal laws status long =
     let count : length (status.bits ++ replicate 7 Either) ≡ 16 = length-append status.bits (replicate 7 Either) ∙ omega (arith, long, length-replicate 7 Either) in
     laws.known.bits.from_normal 16 (status.bits ++ replicate 7 Either) count
@@ -71,7 +71,7 @@ status_relation framed None form = tt
 status_relation false (Some entry) form = form
 status_relation true (Some entry) (place, and_small, high, or_small) = (ap is_place place, and_small, omega (arith, or_small))
 
-register_word_form : (laws : Premises) {lo hi : ℕ} {framed : Bool} {a : Known} (counted : Form) → IsKnown lo hi framed a
+register_word_form : (laws : InstructionLaws) {lo hi : ℕ} {framed : Bool} {a : Known} (counted : Form) → IsKnown lo hi framed a
     → IsNormal 65536 counted → {register : Register}
     → Kind register → IsWord framed (register_word a counted register)
 register_word_form laws {framed} counted form normal (Counter e) = rw e (record { normal = normal; entry = no_relation framed })
@@ -87,27 +87,27 @@ abbrev pub IsReachNormal : Reach → Type 0
 IsReachNormal (InMemory set_so) = IsNormal 65536 set_so
 IsReachNormal other = Unit {0}
 
-beside_form : (laws : Premises) {lo hi : ℕ} {framed : Bool} {a : Known} (counted : Form) → IsKnown lo hi framed a
+beside_form : (laws : InstructionLaws) {lo hi : ℕ} {framed : Bool} {a : Known} (counted : Form) → IsKnown lo hi framed a
     → IsNormal 65536 counted → (register : Register) (offset : ℕ)
     → offset < 65536
     → IsNormal 65536 (beside a counted register offset)
 beside_form laws {a} counted form normal register offset small =
-    moved_normal laws.known (register_word a counted register).set offset small (register_word_form laws counted form normal (laws.kinds register)).normal
+    moved_normal laws.known (register_word a counted register).set offset small (register_word_form laws counted form normal (laws.places.kinds register)).normal
 
-pub source_form : (laws : Premises) {lo hi : ℕ} {framed : Bool} {a : Known} (counted : Form) → IsKnown lo hi framed a
+pub source_form : (laws : InstructionLaws) {lo hi : ℕ} {framed : Bool} {a : Known} (counted : Form) → IsKnown lo hi framed a
     → IsNormal 65536 counted → (pc : ℕ) (origin : Source)
     → IsSource origin
     → IsReachNormal (source_reach pc a counted origin)
 source_form laws counted form normal pc (source.Register register) is = tt
 source_form laws counted form normal pc (source.Indexed register offset) is = beside_form laws counted form normal register offset is.1
-source_form laws counted form normal pc (source.Indirect register) is = (register_word_form laws counted form normal (laws.kinds register)).normal
-source_form laws counted form normal pc (source.IndirectIncrement register) is = (register_word_form laws counted form normal (laws.kinds register)).normal
+source_form laws counted form normal pc (source.Indirect register) is = (register_word_form laws counted form normal (laws.places.kinds register)).normal
+source_form laws counted form normal pc (source.IndirectIncrement register) is = (register_word_form laws counted form normal (laws.places.kinds register)).normal
 source_form laws counted form normal pc (source.Immediate value) is = tt
 source_form laws counted form normal pc (source.Symbolic offset) is = (laws.known.sets.single 65536 ((pc + 2 + offset) % 65536) (omega arith)).0
 source_form laws counted form normal pc (source.Absolute address) is = (laws.known.sets.single 65536 address is).0
 source_form laws counted form normal pc (source.Constant constant) is = tt
 
-pub destination_form : (laws : Premises) {lo hi : ℕ} {framed : Bool} {a : Known} (counted : Form)
+pub destination_form : (laws : InstructionLaws) {lo hi : ℕ} {framed : Bool} {a : Known} (counted : Form)
     → IsKnown lo hi framed a → IsNormal 65536 counted
     → (pc len : ℕ) (target : Destination) → IsDestination target
     → IsReachNormal (destination_reach pc len a counted target)
@@ -116,14 +116,14 @@ destination_form laws counted form normal pc len (destination.Indexed register o
 destination_form laws counted form normal pc len (destination.Symbolic offset) is = (laws.known.sets.single 65536 ((pc + len - 2 + offset) % 65536) (omega arith)).0
 destination_form laws counted form normal pc len (destination.Absolute address) is = (laws.known.sets.single 65536 address is).0
 
-pub grown_form : (laws : Premises) {lo hi : ℕ} {framed : Bool} {a : Known} (counted : Form) → IsKnown lo hi framed a
+pub grown_form : (laws : InstructionLaws) {lo hi : ℕ} {framed : Bool} {a : Known} (counted : Form) → IsKnown lo hi framed a
     → IsNormal 65536 counted → (width : Width) (origin : Source)
     → IsKnown lo hi framed (grown_known a counted width origin)
 grown_form laws {framed} {a} counted form normal width (source.IndirectIncrement register) =
     let more = growth width register in
-    register_form laws (laws.kinds register) (record {
+    register_form laws (laws.places.kinds register) (record {
       normal = moved_normal laws.known (register_word a counted register).set more (growth_small width register)
-          (register_word_form laws counted form normal (laws.kinds register)).normal;
+          (register_word_form laws counted form normal (laws.places.kinds register)).normal;
       entry = no_relation framed;
     }) form
 grown_form laws counted form normal width other = form
@@ -187,18 +187,18 @@ pub destination_small : (pc len : ℕ) (a : Known) (counted : Form) (target : De
 destination_small pc len a counted (destination.Register register) = tt
 destination_small pc len a counted other = tt
 
-pub operand_form : (laws : Premises) {device : Device} {framed : Bool} {a : Known} (counted : Form) → IsDevice device
+pub operand_form : (laws : InstructionLaws) {device : Device} {framed : Bool} {a : Known} (counted : Form) → IsDevice device
     → IsKnown device.ram.lo device.ram.hi framed a
     → IsNormal 65536 counted → (width : Width) (reach : Reach)
     → IsReachSmall reach → IsWord framed (operand_word device a counted width reach)
-operand_form laws counted is form normal width (InRegister register) small = register_word_form laws counted form normal (laws.kinds register)
+operand_form laws counted is form normal width (InRegister register) small = register_word_form laws counted form normal (laws.places.kinds register)
 operand_form laws {device} {a} counted is form normal width (InMemory set_so) small = record {
   normal = read_known_normal laws a is form.cells width (located device width set_so);
   entry = list_relation device width (members 65536 (located device width set_so)) form;
 }
 operand_form laws {framed} counted is form normal width (Fixed value) small = record { normal = (laws.known.sets.single 65536 value small).0; entry = no_relation framed }
 
-pub values_form : (laws : Premises) {framed : Bool} (width : Width) {word : Word} → IsWord framed word
+pub values_form : (laws : InstructionLaws) {framed : Bool} (width : Width) {word : Word} → IsWord framed word
     → IsNormal (modulus width) (values_of width word)
 values_form laws Words is = is.normal
 values_form laws Byte {word} is = laws.known.bits.low_normal word.set is.normal
@@ -253,7 +253,7 @@ word_writable is = record {
   };
 }
 
-pub written_form : (laws : Premises) (framed : Bool) (width : Width) (set_so : Form) (entry : Option Entry)
+pub written_form : (laws : InstructionLaws) (framed : Bool) (width : Width) (set_so : Form) (entry : Option Entry)
     → IsNormal (modulus width) set_so → IsRelation framed entry
     → IsWritable framed width (written_word width set_so entry)
 written_form laws framed Words set_so entry normal form = word_writable (record { normal = normal; entry = form })
@@ -268,18 +268,18 @@ written_form laws framed Byte set_so entry normal form =
       };
     }
 
-pub put_form : (laws : Premises) {device : Device} {framed : Bool} {a : Known} → IsDevice device
+pub put_form : (laws : InstructionLaws) {device : Device} {framed : Bool} {a : Known} → IsDevice device
     → IsKnown device.ram.lo device.ram.hi framed a
     → {width : Width} (reach : Reach) {word : Word} → IsReachNormal reach
     → IsWritable framed width word → IsKnown device.ram.lo device.ram.hi framed (put_known device framed a width reach word)
-put_form laws is form (InRegister register) normal writable = register_form laws (laws.kinds register) writable.word_so form
+put_form laws is form (InRegister register) normal writable = register_form laws (laws.places.kinds register) writable.word_so form
 put_form laws {device} is form {width} (InMemory set_so) normal writable =
     let there = located_normal laws is.ram width set_so normal in
     store_form laws (located device width set_so) is (laws.known.sets.some 65536 (located device width set_so) there)
     (located_even laws is.ram width set_so normal) writable.cell form
 put_form laws is form (Fixed value) normal writable = form
 
-pub put_if_form : (laws : Premises) {device : Device} {framed : Bool} {a : Known} → IsDevice device
+pub put_if_form : (laws : InstructionLaws) {device : Device} {framed : Bool} {a : Known} → IsDevice device
     → IsKnown device.ram.lo device.ram.hi framed a
     → (writes : Bool) {width : Width} (reach : Reach) {word : Word} → IsReachNormal reach
     → IsWritable framed width word → IsKnown device.ram.lo device.ram.hi framed (put_known_if writes device framed a width reach word)
@@ -291,28 +291,28 @@ pub record AreNext (ahead : ℕ) (next : Form) : Type 0 where
   pub normal : IsNormal 65536 next
   pub even : ahead % 2 ≡ 0 → HasRemainder 65536 2 0 next
 
-ahead_next : (laws : Premises) (ahead : ℕ) → ahead < 65536 → AreNext ahead (single ahead)
+ahead_next : (laws : InstructionLaws) (ahead : ℕ) → ahead < 65536 → AreNext ahead (single ahead)
 ahead_next laws ahead small = record {
   normal = (laws.known.sets.single 65536 ahead small).0;
   even = laws.known.sets.single_rest 65536 2 0 ahead;
 }
 
-parts_next : (laws : Premises) (ahead : ℕ) (set_so : Form) → IsNormal 65536 set_so → AreNext ahead (even_parts set_so)
+parts_next : (laws : InstructionLaws) (ahead : ℕ) (set_so : Form) → IsNormal 65536 set_so → AreNext ahead (even_parts set_so)
 parts_next laws ahead set_so normal = let parts = even_parts_form laws.known set_so normal in record { normal = parts.normal; even = λ even. parts.even }
 
-next_form : (laws : Premises) (reach : Reach) (word : Word) (ahead : ℕ) → IsNormal 65536 word.set → ahead < 65536
+next_form : (laws : InstructionLaws) (reach : Reach) (word : Word) (ahead : ℕ) → IsNormal 65536 word.set → ahead < 65536
     → AreNext ahead (next_by reach word ahead)
 next_form laws (InRegister Pc) word ahead normal small = parts_next laws ahead word.set normal
 next_form laws other word ahead normal small = ahead_next laws ahead small
 
-next_if_form : (laws : Premises) (writes : Bool) (reach : Reach) (word : Word) (ahead : ℕ) → IsNormal 65536 word.set → ahead < 65536
+next_if_form : (laws : InstructionLaws) (writes : Bool) (reach : Reach) (word : Word) (ahead : ℕ) → IsNormal 65536 word.set → ahead < 65536
     → AreNext ahead (next_if writes reach word ahead)
 next_if_form laws true reach word ahead normal small = next_form laws reach word ahead normal small
 next_if_form laws false reach word ahead normal small = ahead_next laws ahead small
 
 -- TWO OPERANDS
 
-counter_form : (laws : Premises) (pc len : ℕ) (origin : Source) (target : Destination) → IsNormal 65536 (counter_set pc len origin target)
+counter_form : (laws : InstructionLaws) (pc len : ℕ) (origin : Source) (target : Destination) → IsNormal 65536 (counter_set pc len origin target)
 counter_form laws pc len origin target =
     let one = laws.known.sets.single 65536 ((pc + 2) % 65536) (omega arith) in
     let two = laws.known.sets.single 65536 ((pc + 4) % 65536) (omega arith) in
@@ -320,7 +320,7 @@ counter_form laws pc len origin target =
     (λ e. laws.known.sets.join_normal 65536 (single ((pc + 2) % 65536)) (single ((pc + 4) % 65536)) one.0 two.0)
     (λ e. (laws.known.sets.single 65536 ((pc + len) % 65536) (omega arith)).0)
 
-target_form : (laws : Premises) {device : Device} {framed : Bool} {a : Known} (counted : Form) → IsDevice device
+target_form : (laws : InstructionLaws) {device : Device} {framed : Bool} {a : Known} (counted : Form) → IsDevice device
     → IsKnown device.ram.lo device.ram.hi framed a
     → IsNormal 65536 counted → (done : Operation) (width : Width) (reach : Reach)
     → IsReachSmall reach → IsWord framed (destination_word device a counted done width reach)
@@ -329,7 +329,7 @@ target_form laws {device} {framed} {a} counted is form normal done width reach s
     (λ e. operand_form laws counted is form normal width reach small)
     (λ e. record { normal = (laws.known.sets.single 65536 0 (omega arith)).0; entry = no_relation framed })
 
-made_form : (laws : Premises) {framed : Bool} (done : Operation) (width : Width) (origin : Source) (target : Destination) {one other : Word} (c : Tri)
+made_form : (laws : InstructionLaws) {framed : Bool} (done : Operation) (width : Width) (origin : Source) (target : Destination) {one other : Word} (c : Tri)
     → IsWord framed one
     → IsWord framed other
     → IsNormal (modulus width) (made_of done width origin target one other c).0
@@ -345,7 +345,7 @@ pub record AreMade (device : Device) (framed : Bool) (put_so after : Known) (ahe
   pub after_so : IsKnown device.ram.lo device.ram.hi framed after
   pub next_so : AreNext ahead next
 
-pub double_forms : (laws : Premises) {device : Device} {framed : Bool} {a : Known} → IsDevice device
+pub double_forms : (laws : InstructionLaws) {device : Device} {framed : Bool} {a : Known} → IsDevice device
     → IsKnown device.ram.lo device.ram.hi framed a
     → (pc len : ℕ) (done : Operation) (width : Width) (origin : Source) (target : Destination)
     → IsSource origin → IsDestination target
@@ -387,7 +387,7 @@ pub record WorkedForm (device : Device) (framed : Bool) (after : Known) (ahead :
   pub after_so : IsKnown device.ram.lo device.ram.hi framed after
   pub next_so : AreNext ahead next
 
-pub double_worked_form : (laws : Premises)
+pub double_worked_form : (laws : InstructionLaws)
     → {device : Device} {framed : Bool} {a : Known} (pc len : ℕ) (done : Operation) (width : Width) (origin : Source) (target : Destination)
     → IsDevice device
     → IsKnown device.ram.lo device.ram.hi framed a → IsSource origin → IsDestination target
@@ -400,7 +400,7 @@ double_worked_form laws pc len done width origin target is form from_so to_so =
 
 -- ONE OPERAND
 
-pub single_forms : (laws : Premises) {device : Device} {framed : Bool} {a : Known} → IsDevice device
+pub single_forms : (laws : InstructionLaws) {device : Device} {framed : Bool} {a : Known} → IsDevice device
     → IsKnown device.ram.lo device.ram.hi framed a
     → (pc len : ℕ) (done : SingleOperation) (width : Width) (operand : Source)
     → IsSource operand → HasWidth done width
@@ -431,7 +431,7 @@ single_forms laws {device} {framed} {a} is form pc len done width operand from_s
       next_so = next_form laws from word ((pc + len) % 65536) writable.word_so.normal (omega arith);
     }
 
-pub single_worked_form : (laws : Premises)
+pub single_worked_form : (laws : InstructionLaws)
     → {device : Device} {framed : Bool} {a : Known} (pc len : ℕ) (done : SingleOperation) (width : Width) (operand : Source)
     → IsDevice device
     → IsKnown device.ram.lo device.ram.hi framed a → IsSource operand → HasWidth done width
@@ -443,11 +443,11 @@ single_worked_form laws pc len done width operand is form from_so fits =
 
 -- PUSH AND CALL
 
-lowered_form : (laws : Premises) {lo hi : ℕ} {framed : Bool} {a : Known} → IsKnown lo hi framed a → IsKnown lo hi framed (lowered_known a)
+lowered_form : (laws : InstructionLaws) {lo hi : ℕ} {framed : Bool} {a : Known} → IsKnown lo hi framed a → IsKnown lo hi framed (lowered_known a)
 lowered_form laws {a} form =
     sp_form laws (add 65536 a.sp (single 65534)) (moved_normal laws.known a.sp 65534 (omega arith) form.sp.normal) form
 
-forming_form : (laws : Premises) {lo hi : ℕ} {framed : Bool} {a : Known} (operand : Source) → IsKnown lo hi framed a
+forming_form : (laws : InstructionLaws) {lo hi : ℕ} {framed : Bool} {a : Known} (operand : Source) → IsKnown lo hi framed a
     → IsKnown lo hi framed (forming_known operand a)
 forming_form laws {lo} {hi} {framed} {a} operand form =
     let less = add 65536 a.sp (single 65534) in
@@ -455,21 +455,21 @@ forming_form laws {lo} {hi} {framed} {a} operand form =
     cond_both (is_formed_by_stack operand) (with_sp a (join 65536 a.sp less)) a (IsKnown lo hi framed)
     (λ e. sp_form laws (join 65536 a.sp less) (laws.known.sets.join_normal 65536 a.sp less form.sp.normal less_normal) form) (λ e. form)
 
-byte_form : (laws : Premises) {framed : Bool} {x : Word} → IsWord framed x
+byte_form : (laws : InstructionLaws) {framed : Bool} {x : Word} → IsWord framed x
     → IsWord framed (record { set = pair_set (values_of Byte x) (make 256 0 1 256); entry = None })
 byte_form laws {framed} {x} is = record {
   normal = laws.known.bits.pair_normal (values_of Byte x) (make 256 0 1 256) (values_form laws Byte is) (laws.known.sets.whole_normal 256 (omega arith));
   entry = no_relation framed;
 }
 
-pushed_form : (laws : Premises) {framed : Bool} (done : SingleOperation) (width : Width) {x : Word} (after : ℕ)
+pushed_form : (laws : InstructionLaws) {framed : Bool} (done : SingleOperation) (width : Width) {x : Word} (after : ℕ)
     → after < 65536 → IsWord framed x
     → IsWord framed (pushed_known done width x after)
 pushed_form laws {framed} Call width after small is = record { normal = (laws.known.sets.single 65536 after small).0; entry = no_relation framed }
 pushed_form laws other Words after small is = is
 pushed_form laws other Byte after small is = byte_form laws is
 
-called_form : (laws : Premises) {framed : Bool} (done : SingleOperation) (width : Width) {x : Word} (after : ℕ)
+called_form : (laws : InstructionLaws) {framed : Bool} (done : SingleOperation) (width : Width) {x : Word} (after : ℕ)
     → after < 65536 → IsWord framed x
     → AreNext after (called_next done width x after)
 called_form laws {framed} Call width {x} after small is =
@@ -477,7 +477,7 @@ called_form laws {framed} Call width {x} after small is =
     parts_next laws after target.set (written_form laws framed width (values_of width x) None (values_form laws width is) (no_relation framed)).word_so.normal
 called_form laws other width after small is = ahead_next laws after small
 
-pub push_worked_form : (laws : Premises)
+pub push_worked_form : (laws : InstructionLaws)
     → {device : Device} {framed : Bool} {a : Known} (pc len : ℕ) (done : SingleOperation) (width : Width) (operand : Source)
     → IsDevice device
     → IsKnown device.ram.lo device.ram.hi framed a → IsSource operand

@@ -4,5 +4,4 @@ pub mod NumberFacts
 pub mod StateFacts
 pub mod Operands
 pub mod Formats
-pub mod Premises
 pub mod Laws

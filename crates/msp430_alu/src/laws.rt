@@ -1,21 +1,9 @@
 //! What holds of what instructions make of what is known of a state.
 
-ghost use Rattle.msp430_alu.specs.Premises.{Premises};
 ghost use Rattle.msp430_alu.specs.Laws.{DoublesHold, MemoryLaws, PushesHold, SinglesHold, WordsHold};
 
 use irq_frames::known_laws;
-use msp430_chip::{accesses_are_in_memory, registers_of_five_kinds};
-use msp430_results::operations_hold;
-
-/// The laws of sets, of states and of results that those below rest on.
-pub(crate) fn premises_hold()
-    ensures { Premises }
-{
-    known_laws();
-    operations_hold();
-    accesses_are_in_memory();
-    registers_of_five_kinds();
-}
+use msp430_results::instruction_laws;
 
 /// The law of instructions with two operands, but for those that write SR: a state that stands under what is known may only
 /// lead to one that stands under what `double_worked` says, at one of its next addresses. Its items show each access, and a
@@ -23,21 +11,21 @@ pub(crate) fn premises_hold()
 pub fn doubles_hold()
     ensures { DoublesHold }
 {
-    premises_hold();
+    instruction_laws();
 }
 
 /// The same of instructions with one operand, but for those that write SR: `single_worked`.
 pub fn singles_hold()
     ensures { SinglesHold }
 {
-    premises_hold();
+    instruction_laws();
 }
 
 /// The same of PUSH and CALL: `push_worked`.
 pub fn pushes_hold()
     ensures { PushesHold }
 {
-    premises_hold();
+    instruction_laws();
 }
 
 /// The law of words in memory, and of SR as a word. An access at one of some addresses is made at one of where they are
@@ -46,7 +34,7 @@ pub fn pushes_hold()
 pub fn words_in_memory()
     ensures { WordsHold }
 {
-    premises_hold();
+    instruction_laws();
 }
 
 /// All laws of what is known, and of words in memory, for proofs above.

@@ -7,12 +7,12 @@ ghost use Rattle.msp430_chip.specs.Memory.{HasRam};
 ghost use Rattle.msp430_alu.specs.Memory as memory;
 ghost use Rattle.msp430_alu.specs.Operands as operands;
 
-use crate::laws::premises_hold;
 use crate::reach::Reach;
 use crate::registers::{even_parts, register_word};
 use entry_value::Cells;
 use msp430_chip::Device;
 use msp430_decode::{Destination, Register, Source, Width};
+use msp430_results::instruction_laws;
 use msp430_state::State;
 use value_set::Vs16;
 
@@ -95,7 +95,7 @@ pub fn located(device: &Device, width: Width, set: &Vs16) -> Vs16
     ensures value { result ≡ memory.located device.now width set.now }
     ensures fits { (v : ℕ) → Has 65536 result v → v + chip.size_of width ≤ 65536 }
 {
-    premises_hold();
+    instruction_laws();
     let _form = set.form();
     match width {
         Width::Word => canonical(device, &even_parts(set)),

@@ -17,7 +17,6 @@ use crate::formats::{
     see_lowered, show, store_of, writes_result,
 };
 use crate::here::Here;
-use crate::laws::premises_hold;
 use crate::operands::{destination_reach, source_reach};
 use crate::reach::Reach;
 use crate::reading::known_operand;
@@ -27,7 +26,7 @@ use call_context::{Item, Sequence};
 use entry_value::{Cells, Word};
 use msp430_chip::Device;
 use msp430_decode::{Destination, Operation, SingleOperation, Source, Width};
-use msp430_results::{FlagBits, double_made, single_made, twice_made};
+use msp430_results::{FlagBits, double_made, instruction_laws, single_made, twice_made};
 use msp430_state::State;
 use no_memory::Memory;
 use std::alloc::Global;
@@ -95,7 +94,7 @@ fn double_result(
     ensures flags { result.1 ≡ (formats.made_of operation width origin target source.now destination.now carry).1 }
     ensures byte { chip.size_of width ≡ 1 → (v : ℕ) → Has 65536 result.0.set v → v < 256 }
 {
-    premises_hold();
+    instruction_laws();
     keeps_form(source);
     keeps_form(destination);
     let entry = relation_of(operation, origin, source.entry, destination.entry);
@@ -117,7 +116,7 @@ fn single_result(
     ensures flags { result.1 ≡ (results.single_made operation width (words.values_of width operand.now) carry).1 }
     ensures byte { chip.size_of width ≡ 1 → (v : ℕ) → Has 65536 result.0.set v → v < 256 }
 {
-    premises_hold();
+    instruction_laws();
     keeps_form(operand);
     single_made(operation, width, operand, carry, None)
 }

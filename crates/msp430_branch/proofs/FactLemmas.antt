@@ -22,6 +22,7 @@ use Rattle.msp430_chip.specs.declared.place.Place.TheVariants.{InRegister, Fixed
 use Rattle.msp430_chip.specs.declared.state.ChipState.{ChipState}
 use Rattle.msp430_chip.specs.Arithmetic.{Made, complement, modulus, reads_destination, sum, with_made_flags}
 use Rattle.msp430_chip.specs.Kinds.{Kind, IsGeneral}
+use Rattle.msp430_chip.specs.Laws.{PlaceLaws}
 use Rattle.msp430_chip.specs.Kinds.Kind.{Counter, Stack, Status, Empty, General}
 use Rattle.msp430_chip.specs.Leading.{MayDouble, MayLeaveDouble, MayStandIf}
 use Rattle.msp430_chip.specs.Leading.MayLeaveDouble.{FreeStatus, OfResult}
@@ -167,7 +168,7 @@ register_told laws {device} {a} {s} len counted {done} added {width} n {register
     (λ told. (flags, told_byte laws width r general.above general.below told holds))
     (λ e. tt)
 
-constant_told : (laws : KnownLaws) → ((register : Register) → Kind register)
+constant_told : (laws : KnownLaws) → PlaceLaws
     → {device : Device} {a : Known} {s : ChipState} {first : Option ChipState} (len counted : ℕ) {done : Operation} (added : ℕ → ℕ) {width : Width} (n : ℕ) (target : Destination)
     (x y bits : ℕ) {carry : ℕ} {left : Left}
     → IsChipState device s → Compares device done added → reads_destination done ≡ true → x ≡ n % modulus width
@@ -176,49 +177,49 @@ constant_told : (laws : KnownLaws) → ((register : Register) → Kind register)
     (with_free_bits width (Fixed n) bits x) (with_free_bits width (destination_place (register_of s 0) len (set s.registers 0 counted) target) bits y) carry left
     → HoldsOfParts device a first left.registers left.ram
     → HoldsOfFact (fact_of a width (Some n) (compared_register target) added) left.registers
-constant_told laws kinds {device} {a} {s} len counted added {width} n (destination.Register register) x y bits {left} state compares both reads held leaves holds =
+constant_told laws places {device} {a} {s} len counted added {width} n (destination.Register register) x y bits {left} state compares both reads held leaves holds =
     let Stands : Bool → Type 0 = λ r. MayStandIf r device s.ram (set s.registers 0 counted) width (InRegister register) y in
-    elim (general_or (kinds register)) [
+    elim (general_or (places.kinds register)) [
       | inl none ↦ subst (λ named. HoldsOfFact (fact_of a width (Some n) named added) left.registers) (sym none) tt
       | inr general ↦ subst (λ named. HoldsOfFact (fact_of a width (Some n) named added) left.registers) (sym (numbered register general.above))
           (register_told laws len counted added n x y bits state compares general reads (subst Stands both held) leaves holds)
     ]
-constant_told laws kinds len counted added n other x y bits state compares both reads held leaves holds = tt
+constant_told laws places len counted added n other x y bits state compares both reads held leaves holds = tt
 
 -- of CMP or SUB, which leave the register less by what is added to it again
-done_told : (laws : KnownLaws) → ((register : Register) → Kind register)
+done_told : (laws : KnownLaws) → PlaceLaws
     → {device : Device} {a : Known} {s : ChipState} {first : Option ChipState} {len : ℕ} {done : Operation} (added : ℕ → ℕ) {width : Width} (origin : Source)
     {target : Destination} {outcome : Outcome ChipState}
     → IsChipState device s → Compares device done added → reads_destination done ≡ true
     → (may : MayDouble device s len done width origin target outcome)
     → HoldsOfParts device a first may.left.registers may.left.ram
     → HoldsOfFact (fact_of a width (constant_of origin) (compared_register target) added) may.left.registers
-done_told laws kinds {len} added (source.Immediate n) {target} state compares reads may holds =
-    constant_told laws kinds len may.counted added n target may.x may.y may.bits state compares reads may.reads may.held may.leaves holds
-done_told laws kinds {len} added (source.Constant constant) {target} state compares reads may holds =
-    constant_told laws kinds len may.counted added (constant_value constant) target may.x may.y may.bits state compares reads may.reads may.held may.leaves holds
-done_told laws kinds added other state compares reads may holds = tt
+done_told laws places {len} added (source.Immediate n) {target} state compares reads may holds =
+    constant_told laws places len may.counted added n target may.x may.y may.bits state compares reads may.reads may.held may.leaves holds
+done_told laws places {len} added (source.Constant constant) {target} state compares reads may holds =
+    constant_told laws places len may.counted added (constant_value constant) target may.x may.y may.bits state compares reads may.reads may.held may.leaves holds
+done_told laws places added other state compares reads may holds = tt
 
-pub fact_holds : (laws : KnownLaws) → ((register : Register) → Kind register)
+pub fact_holds : (laws : KnownLaws) → PlaceLaws
     → (device : Device) (a : Known) (s : ChipState) (first : Option ChipState) (len : ℕ) (done : Operation) (width : Width) (origin : Source) (target : Destination)
     (outcome : Outcome ChipState)
     → IsChipState device s → (may : MayDouble device s len done width origin target outcome)
     → HoldsOfParts device a first may.left.registers may.left.ram
     → HoldsOfFact (fact_behind done width origin target a) may.left.registers
-fact_holds laws kinds device a s first len operation.Cmp width origin target outcome state may holds =
-    done_told laws kinds (λ n. 0) origin state (cmp_compares device) refl may holds
-fact_holds laws kinds device a s first len operation.Sub width origin target outcome state may holds =
-    done_told laws kinds (λ n. n) origin state (sub_compares device) refl may holds
-fact_holds laws kinds device a s first len other width origin target outcome state may holds = holds.fact
+fact_holds laws places device a s first len operation.Cmp width origin target outcome state may holds =
+    done_told laws places (λ n. 0) origin state (cmp_compares device) refl may holds
+fact_holds laws places device a s first len operation.Sub width origin target outcome state may holds =
+    done_told laws places (λ n. n) origin state (sub_compares device) refl may holds
+fact_holds laws places device a s first len other width origin target outcome state may holds = holds.fact
 
 -- FORM
 
-fact_of_form : ((register : Register) → Kind register)
+fact_of_form : PlaceLaws
     → (a : Known) (width : Width) (constant : Option ℕ) (target : Destination) (added : ℕ → ℕ)
     → ((n : ℕ) → n < modulus width → added n < modulus width)
     → IsFact (fact_of a width constant (compared_register target) added)
-fact_of_form kinds a width None target added small = tt
-fact_of_form kinds a width (Some n) (destination.Register register) added small = elim (general_or (kinds register)) [
+fact_of_form places a width None target added small = tt
+fact_of_form places a width (Some n) (destination.Register register) added small = elim (general_or (places.kinds register)) [
   | inl none ↦ subst (λ named. IsFact (fact_of a width (Some n) named added)) (sym none) tt
   | inr general ↦
       let k = n % modulus width in
@@ -228,11 +229,11 @@ fact_of_form kinds a width (Some n) (destination.Register register) added small 
       (cond_both (is_told width (word_of a r).set) (Some (record { register = r; added = added k; compared = k; width = width })) None IsFact
       (λ told. (general.above, general.below, small k below, below)) (λ e. tt))
 ]
-fact_of_form kinds a width (Some n) other added small = tt
+fact_of_form places a width (Some n) other added small = tt
 
-pub fact_form : ((register : Register) → Kind register)
+pub fact_form : PlaceLaws
     → (done : Operation) (width : Width) (origin : Source) (target : Destination) (a : Known) → IsFact a.fact
     → IsFact (fact_behind done width origin target a)
-fact_form kinds operation.Cmp width origin target a form = fact_of_form kinds a width (constant_of origin) target (λ n. 0) (λ n small. modulus_some width)
-fact_form kinds operation.Sub width origin target a form = fact_of_form kinds a width (constant_of origin) target (λ n. n) (λ n small. small)
-fact_form kinds other width origin target a form = form
+fact_form places operation.Cmp width origin target a form = fact_of_form places a width (constant_of origin) target (λ n. 0) (λ n small. modulus_some width)
+fact_form places operation.Sub width origin target a form = fact_of_form places a width (constant_of origin) target (λ n. n) (λ n small. small)
+fact_form places other width origin target a form = form

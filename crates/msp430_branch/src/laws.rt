@@ -3,7 +3,7 @@
 ghost use Rattle.msp430_branch.specs.Laws.{CutsHold, FactsHold};
 
 use irq_frames::known_laws;
-use msp430_chip::registers_of_five_kinds;
+use msp430_chip::place_laws;
 
 /// Where a jump is taken, or isn't, by the flags of a state that stands under what is known, that outcome is known, and the
 /// state stands under what is known there. So do registers and RAM alone. What is known on an outcome is in form, and says the same of interrupts.
@@ -19,5 +19,5 @@ pub fn facts_hold()
     ensures { FactsHold }
 {
     known_laws();
-    registers_of_five_kinds();
+    place_laws();
 }

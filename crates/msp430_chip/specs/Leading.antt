@@ -1,5 +1,5 @@
 -- What a step may lead to, as relations in which no choices stand: each point that is free is any number that it may be. A
--- step of `Step.antt` by any choices leads to what these say (`steps_lead`), so that a proof of all steps needs no choices.
+-- step of `Step.antt` by any choices leads to what these say (`step_laws`), so that a proof of all steps needs no choices.
 use Rattle.std.specs.Prelude.{◌≡◌, ℕ, ◌+◌, ◌-◌, ◌*◌, ◌%◌, ◌<◌, ◌==◌, ◌&&◌, ◌||◌, Bool, true, false, None, Some, Err, List, ◌++◌, Contains, slice_index, slice_set}
 use Rattle.image.specs.Image.{byte_at}
 use Rattle.chip_numbers.specs.Numbers.{shifted_right, is_decimal, decimal_sum, decimal_carry}

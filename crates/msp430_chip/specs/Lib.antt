@@ -1,6 +1,7 @@
 pub mod Arithmetic
 pub mod Interrupts
 pub mod Kinds
+pub mod Laws
 pub mod Leading
 pub mod LeadingFacts
 pub mod Memory

@@ -1,47 +1,28 @@
-//! What holds of all steps.
+//! What holds of all steps, and of all places of operands.
 
-ghost use Rattle.std.specs.Prelude.{◌≡◌, ◌++◌, ◌+◌, ◌-◌, ◌%◌, ◌<◌, ◌≤◌, ℕ, All, IsSome, List, Some, length, slice_index};
+ghost use Rattle.std.specs.Prelude.{◌≡◌, ◌-◌, ◌<◌, ◌≤◌, ℕ, All, IsSome, List, Some, length, slice_index};
 ghost use Rattle.image.specs.Image.{IsByte};
-ghost use Rattle.chip_numbers.specs.Single.{Single};
 ghost use Rattle.msp430_decode.specs.declared.instr.Instr.{Instr as AnInstr};
-ghost use Rattle.msp430_decode.specs.declared.instr.Register.{Register as ARegister};
-ghost use Rattle.msp430_decode.specs.declared.instr.Width.{Width as AWidth};
-ghost use Rattle.msp430_decode.specs.declared.instr.Width.TheVariants.{Word};
 ghost use Rattle.msp430_decode.specs.declared.refusal.NoInstr.TheVariants.{Excluded, OffImage};
 ghost use Rattle.msp430_decode.specs.Standing.{IsExcluded, Lacks, Stands};
-ghost use Rattle.choosing.specs.Gives.{Gives};
 ghost use Rattle.msp430_chip.specs.declared.device.Device.{Device as ADevice};
 ghost use Rattle.msp430_chip.specs.declared.state.ChipState.{ChipState as AState};
 ghost use Rattle.msp430_chip.specs.Outcome.{Outcome};
-ghost use Rattle.choosing.specs.Outcome.Outcome.{Next, Wild};
+ghost use Rattle.choosing.specs.Outcome.Outcome.{Wild};
 ghost use Rattle.msp430_chip.specs.declared.state.Wild.TheVariants.{NoInstr};
 ghost use Rattle.msp430_chip.specs.Interrupts.{coming, enter};
-ghost use Rattle.msp430_chip.specs.Kinds.{Kind};
-ghost use Rattle.msp430_chip.specs.Leading.{MayLead, MayRun};
-ghost use Rattle.msp430_chip.specs.Memory.{aligned, size_of, HasRam};
-ghost use Rattle.msp430_chip.specs.State.{IsChipState, IsResetOf, first_state, register_of};
+ghost use Rattle.msp430_chip.specs.Laws.{PlaceLaws, StepLaws};
+ghost use Rattle.msp430_chip.specs.State.{IsResetOf, first_state, register_of};
 ghost use Rattle.msp430_chip.specs.Step.{Step, executed, interrupt_option, step_of};
 
-use msp430_decode::decoded_is_the_answer;
+use msp430_decode::decoding_laws;
 
-/// A step needs a front of the choices and leaves the others, and no list of choices has two fronts with a step.
-pub fn one_front()
-    ensures front { (device : ADevice) (s : AState) (choices rest : List ℕ) (outcome : Outcome AState) →
-        step_of device s choices ≡ Some (outcome, rest) → (front : List ℕ) × (choices ≡ front ++ rest) × Step device s front outcome }
-    ensures onward { (device : ADevice) (s : AState) (front rest : List ℕ) (outcome : Outcome AState) →
-        Step device s front outcome → step_of device s (front ++ rest) ≡ Some (outcome, rest) }
-    ensures one { (device : ADevice) (s : AState) (front other rest more : List ℕ) (outcome another : Outcome AState) →
-        front ++ rest ≡ other ++ more → Step device s front outcome → Step device s other another →
-        (front ≡ other) × (outcome ≡ another) }
-{}
-
-/// A step keeps the form of states, where the device's image has 65536 places, each with a byte or with none. No step asks
-/// more of the addresses of RAM.
-pub fn steps_keep_form()
-    ensures { (device : ADevice) (s t : AState) (choices : List ℕ) (items : List Single) → length device.image ≡ 65536 → All IsByte device.image →
-        IsChipState device s → Step device s choices (Next items t) → IsChipState device t }
+/// What a step leads to, as a relation in which no choices stand (`specs/Leading.antt`). It needs a front of the choices and
+/// leaves the others, and no list of choices has two fronts with a step. It keeps the form of states.
+pub fn step_laws()
+    ensures { StepLaws }
 {
-    decoded_is_the_answer();
+    decoding_laws();
 }
 
 /// Seven choices are enough for any step, and each step is taken by choices of 16 bits.
@@ -74,28 +55,11 @@ pub fn the_table_decides()
         interrupt_option device s choices ≡ Some (option, left) → 0 < option →
         step_of device s choices ≡ enter device s (slice_index (coming device s) (option - 1)) left }
 {
-    decoded_is_the_answer();
+    decoding_laws();
 }
 
-/// On a device with RAM the access at an address is made in memory, and that of a word at an even address.
-pub fn accesses_are_in_memory()
-    ensures even { (device : ADevice) (at : ℕ) → HasRam device → aligned device Word at % 2 ≡ 0 }
-    ensures fits { (device : ADevice) (width : AWidth) (at : ℕ) → HasRam device → at < 65536
-        → aligned device width at + size_of width ≤ 65536 }
+/// A register is PC, SP, SR or R3, or it is one of R4 to R15, which are alike. On a device with RAM the access at an address is
+/// made in memory, and that of a word at an even address.
+pub fn place_laws()
+    ensures { PlaceLaws }
 {}
-
-/// A register is PC, SP, SR or R3, or it is one of R4 to R15, which are alike.
-pub fn registers_of_five_kinds()
-    ensures { (register : ARegister) → Kind register }
-{}
-
-/// What an instruction of so many bytes leads to, format by format, and what a step leads to, as relations in which no
-/// choices stand (`specs/Leading.antt`).
-pub fn steps_lead()
-    ensures format { (device : ADevice) (s : AState) (instr : AnInstr) (len : ℕ)
-        → Gives (MayRun device s instr len) (executed device s instr len) }
-    ensures step { (device : ADevice) (s : AState) → length device.image ≡ 65536 → All IsByte device.image
-        → Gives (MayLead device s) (step_of device s) }
-{
-    decoded_is_the_answer();
-}

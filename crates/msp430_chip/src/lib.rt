@@ -6,13 +6,12 @@
 //!
 //! Of all states and choices:
 //!
-//! - [`one_front`]: each list of choices has at most one front with a step.
+//! - [`step_laws`]: what a step leads to, format by format, without choices (`specs/Leading.antt`). Each list of choices has at
+//!   most one front with a step, and steps keep the form of states.
 //! - [`steps_are_taken`]: seven choices are enough for a step, and choices of 16 bits take each step.
 //! - [`a_reset_exists`]: a device with a program has a state behind a reset.
 //! - [`the_table_decides`]: the instruction that stands at PC by the instruction table is the one that runs.
-//! - [`steps_lead`]: what a step leads to, format by format, without choices (`specs/Leading.antt`).
-//! - [`registers_of_five_kinds`]: a register is PC, SP, SR, R3 or one of R4 to R15.
-//! - [`steps_keep_form`]: steps keep the form of states.
+//! - [`place_laws`]: a register is PC, SP, SR, R3 or one of R4 to R15, and accesses are made in memory.
 #![tactic(auto)]
 
 mod device;
@@ -22,10 +21,7 @@ mod ram;
 mod state;
 
 pub use device::Device;
-pub use law::{
-    a_reset_exists, accesses_are_in_memory, one_front, registers_of_five_kinds, steps_are_taken,
-    steps_keep_form, steps_lead, the_table_decides,
-};
+pub use law::{a_reset_exists, place_laws, step_laws, steps_are_taken, the_table_decides};
 pub use place::{Flags, Place};
 pub use ram::Ram;
 pub use state::{ChipState, Wild};

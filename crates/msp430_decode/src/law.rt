@@ -1,14 +1,13 @@
 //! What holds of all bytes, words and images.
 
-ghost use Rattle.std.specs.Prelude.{◌≡◌, ◌<◌, ◌+◌, ◌*◌, ◌∷◌, ℕ, All, List, Option, Result, Ok, length, true, false};
+ghost use Rattle.std.specs.Prelude.{◌≡◌, ◌<◌, ◌+◌, ◌*◌, ◌∷◌, ℕ, All, List, Option, Result, length, true, false};
 ghost use Rattle.image.specs.Image.{IsByte};
 ghost use Rattle.msp430_decode.specs.declared.instr.Instr.{Instr};
 ghost use Rattle.msp430_decode.specs.declared.refusal.NoInstr.{NoInstr};
-ghost use Rattle.msp430_decode.specs.Table.{Row, IsInstr, bytes_of, length_of};
+ghost use Rattle.msp430_decode.specs.Table.{Row};
 ghost use Rattle.msp430_decode.specs.Excluded.{is_excluded};
-ghost use Rattle.msp430_decode.specs.Decoding.{decoded};
-ghost use Rattle.msp430_decode.specs.Laws.{OneInstruction, BytesOfOneInstruction};
-ghost use Rattle.msp430_decode.specs.Standing.{Stands, Lacks, Decodes, AreThere, upward};
+ghost use Rattle.msp430_decode.specs.Laws.{BytesOfOneInstruction, DecodingLaws, OneInstruction};
+ghost use Rattle.msp430_decode.specs.Standing.{Decodes};
 
 /// Bytes are at most one instruction, the bytes of an instruction are as many as its length says, and none goes on
 /// behind the bytes of another.
@@ -35,14 +34,8 @@ pub fn excluded_words()
 
 /// The decoder's answer as a function is the answer at each address, and no other is: an instruction of the table with
 /// its length and its bytes, or a refusal.
-pub fn decoded_is_the_answer()
-    ensures answer { (image : List (Option ℕ)) (pc : ℕ) → length image ≡ 65536 → All IsByte image →
-        Decodes image pc (decoded image pc) }
-    ensures one { (image : List (Option ℕ)) (pc : ℕ) (answer : Result (Instr × ℕ) NoInstr) →
-        length image ≡ 65536 → All IsByte image → Decodes image pc answer → answer ≡ decoded image pc }
-    ensures instruction { (image : List (Option ℕ)) (pc len : ℕ) (instr : Instr) → length image ≡ 65536 → All IsByte image →
-        decoded image pc ≡ Ok (instr, len) →
-        IsInstr instr × (len ≡ length_of instr) × AreThere (upward image pc) 0 (bytes_of instr) }
+pub fn decoding_laws()
+    ensures { DecodingLaws }
 {}
 
 /// The instruction of some bytes as a function is the one whose row they are, and there is none where they are no row. An

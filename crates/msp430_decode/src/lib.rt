@@ -17,8 +17,8 @@
 //! - [`Instr::length`] is the number of these bytes. [`Instr::jump_target`] says where a jump goes.
 //! - [`one_instruction`], [`one_of_three`] and [`excluded_words`] are laws of the table: bytes are at most one
 //!   instruction, each address of an image has exactly one of the three answers, and `specs/Excluded.antt` lists exactly
-//!   the first words that no instruction begins with. [`decoded_is_the_answer`] and [`bytes_of_one_instruction`] say that
-//!   the two functions are what the table says.
+//!   the first words that no instruction begins with. [`decoding_laws`] and [`bytes_of_one_instruction`] say that the two
+//!   functions are what the table says.
 //!
 //! No call takes memory.
 #![tactic(auto)]
@@ -39,6 +39,6 @@ pub use instr::{
     Condition, Constant, Destination, Instr, Operation, Register, SingleOperation, Source, Width,
 };
 pub use law::{
-    bytes_of_one_instruction, decoded_is_the_answer, excluded_words, one_instruction, one_of_three,
+    bytes_of_one_instruction, decoding_laws, excluded_words, one_instruction, one_of_three,
 };
 pub use refusal::NoInstr;

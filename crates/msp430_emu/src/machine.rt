@@ -11,7 +11,7 @@ use crate::step::advance;
 use crate::stepped::Stepped;
 use choosing::Choices;
 use image::{Image, RamRange, Rules};
-use msp430_chip::{ChipState, Ram, one_front};
+use msp430_chip::{ChipState, Ram, step_laws};
 use no_memory::Memory;
 use std::alloc::Global;
 
@@ -53,7 +53,7 @@ impl Machine {
         let stepped = advance(&layout, &mut self.state, &mut unused);
         let count = unused.count();
         if matches!(stepped, Stepped::Met(_)) {
-            one_front();
+            step_laws();
             choices.leave(count);
         }
         stepped

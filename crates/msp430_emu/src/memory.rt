@@ -9,7 +9,7 @@ ghost use Rattle.choosing.specs.Choosing.{asked};
 
 use choosing::Unused;
 use image::{Image, RamRange};
-use msp430_chip::{Ram, accesses_are_in_memory};
+use msp430_chip::{Ram, place_laws};
 use msp430_decode::Width;
 use std::marker::Model;
 
@@ -73,7 +73,7 @@ impl<'a> Layout<'a> {
         ensures room { result + memory.size_of width ≤ 65536 }
     {
         self.keeps_ram();
-        accesses_are_in_memory();
+        place_laws();
         match width {
             Width::Word => self.canon(even(at)),
             Width::Byte => self.canon(at),

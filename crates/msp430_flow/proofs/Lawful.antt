@@ -40,7 +40,7 @@ use Rattle.msp430_flow.specs.Machine.{StepsTo, leaving_of, msp430_machine}
 use Rattle.msp430_flow.specs.Marks.{stops}
 use Rattle.msp430_flow.specs.Running.{gie_of, leaves_frame, worked}
 use Rattle.msp430_flow.proofs.Landing.{AtLocation, IsAhead, entry_lands, exit_formed, joined_ahead, onward_formed, run_lands}
-use Rattle.msp430_flow.proofs.Premises.{Laws}
+use Rattle.msp430_flow.proofs.LawsBelow.{Laws}
 use Rattle.msp430_flow.proofs.MarksLemmas.{stops_below}
 use Rattle.msp430_flow.proofs.Stepping.{Comes, comes, device_of, in_base, instr_found, location_breaks, told}
 use Rattle.msp430_flow.proofs.Ways.{leaves_back, onward_cases}

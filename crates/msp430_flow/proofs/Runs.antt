@@ -48,7 +48,7 @@ use Rattle.msp430_flow.specs.Running.{all_ways, fact_of, followed, gie_of, known
 use Rattle.msp430_flow.proofs.RegisterViews.{OperandView, TargetView, operand_view, target_view}
 use Rattle.msp430_flow.proofs.RegisterViews.OperandView.{other_operand, status_operand}
 use Rattle.msp430_flow.proofs.RegisterViews.TargetView.{other_target, status_target}
-use Rattle.msp430_flow.proofs.Premises.{Laws}
+use Rattle.msp430_flow.proofs.LawsBelow.{Laws}
 use Rattle.plain_lemmas.specs.Members.{in_none}
 
 -- one of some ways goes to an address, and the registers and RAM stand under what is known there

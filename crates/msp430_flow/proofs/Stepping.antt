@@ -9,7 +9,7 @@ use Rattle.call_context.specs.declared.shown.Cause.{Cause}
 use Rattle.call_context.specs.declared.shown.Cause.TheVariants.{Fetch, Store, Targets}
 use Rattle.chip_numbers.specs.Single.{Single}
 use Rattle.chip_numbers.specs.Single.Single.{Instr as Ran, Edge as Went, Stack as Stood}
-use Rattle.chip_law.specs.declared.chip.Work.{Work}
+use Rattle.chip_analysis.specs.declared.chip.Work.{Work}
 use Rattle.chip_law.specs.Laws.{IsTold, Tells}
 use Rattle.chip_law.specs.Outcome.Leaving.{program_written}
 use Rattle.chip_flow.specs.Opens.{BreaksLimits, entry_open, fetch_open, store_open as instr_open}
@@ -49,7 +49,7 @@ use Rattle.msp430_flow.specs.declared.setting.Setting.{Setting}
 use Rattle.msp430_flow.specs.Chip.{BreaksLimit, CanHit, IsProgram, followed_by, msp430_analysis, msp430_flow, onward_of, open_store, push_opens, store_of}
 use Rattle.msp430_flow.specs.Machine.{leaving_of}
 use Rattle.msp430_flow.specs.Running.{may_hit, stored_width, worked}
-use Rattle.msp430_flow.proofs.Premises.{Laws}
+use Rattle.msp430_flow.proofs.LawsBelow.{Laws}
 use Rattle.plain_lemmas.specs.Cases.{same_Some}
 use Rattle.plain_lemmas.specs.Members.{in_first, in_none, in_one}
 use Rattle.msp430_flow.proofs.Ways.{open_of}

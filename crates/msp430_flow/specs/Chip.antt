@@ -8,7 +8,7 @@ use Rattle.call_context.specs.declared.shown.Cause.{Cause}
 use Rattle.call_context.specs.declared.shown.Cause.TheVariants.{Fetch, Targets, Store}
 use Rattle.call_context.specs.declared.shown.Set.TheVariants.{W}
 use Rattle.call_context.specs.Nodes.{frame_of}
-use Rattle.chip_law.specs.Analysis.{Analysis}
+use Rattle.chip_analysis.specs.Analysis.{Analysis}
 use Rattle.chip_flow.specs.declared.going.Followed.{Followed}
 use Rattle.chip_flow.specs.declared.going.Onward.{Onward}
 use Rattle.chip_flow.specs.declared.going.Onward.TheVariants.{Leaves}

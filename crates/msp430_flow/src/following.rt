@@ -12,12 +12,12 @@ use crate::labels::effect_of;
 use crate::running::{fact_of, leaves_frame, run, stored_width};
 use crate::storing::{add_push_opens, store_of};
 use call_context::{Frame, InstrBytes, Sequence, Set};
+use chip_analysis::Work;
 use chip_flow::{CallEffect, Flow, Followed, Onward, add_handler};
-use chip_law::Work;
 use msp430_alu::Worked;
 use msp430_branch::cut;
 use msp430_decode::{Condition, Instr, encode, offset_target};
-use msp430_entry::{Coming, add_entry_items, comings, entered, entries_hold, frame_of, handler_of};
+use msp430_entry::{Coming, add_entry_items, comings, entered, entry_laws, frame_of, handler_of};
 use msp430_resume::resume;
 use msp430_state::FlagFact;
 use no_memory::Memory;
@@ -76,23 +76,24 @@ fn ways_of(
     instr: &Instr,
     next: Vs16,
     behind: Abs,
-) -> Result<Onward<Abs>, Memory>
+) -> Result<Onward<Kept>, Memory>
     requires { IsInstr instr.now }
     ensures { IfOk result (λ onward. onward ≡ running.ways_onward pc instr.now next behind) }
 {
     match *instr {
         Instr::Jump { condition, offset } => {
             let jumped = outcome(behind.copy(alloc)?, condition, true);
+            let on = outcome(behind, condition, false);
             Ok(Onward::Jumps {
                 behind: pc.wrapping_add(2),
                 target: offset_target(pc, offset),
-                on: outcome(behind, condition, false),
-                jumped,
+                on: Kept::if_known(alloc, on)?,
+                jumped: Kept::if_known(alloc, jumped)?,
             })
         }
         _ => Ok(Onward::Lands {
             targets: next,
-            behind,
+            behind: Kept::new(alloc, behind)?,
         }),
     }
 }
@@ -106,7 +107,7 @@ fn onward_by(
     instr: &Instr,
     next: Vs16,
     after: Abs,
-) -> Result<Onward<Abs>, Memory>
+) -> Result<Onward<Kept>, Memory>
     requires { IsInstr instr.now }
     ensures { IfOk result (λ onward. onward ≡ running.onward_by limit late pc instr.now next after) }
 {
@@ -173,7 +174,8 @@ impl Flow for Msp430Chip {
         } = run(alloc, device, is_interrupt(frame), at, pc, instr)?;
         let store = store_of(device, stored_width(instr), store);
         let onward = if leaves_frame(device, frame, at, instr) {
-            Onward::Leaves(followed(after, gie_of(at), None))
+            let behind = followed(after, gie_of(at), None);
+            Onward::Leaves(Kept::new(alloc, behind)?)
         } else {
             let limit = self.limits().targets;
             onward_by(alloc, limit, gie_of(at), pc, instr, next, after)?
@@ -203,7 +205,7 @@ impl Flow for Msp430Chip {
         coming: &Coming,
     ) -> Result<(), Memory> {
         self.keeps_rules();
-        entries_hold();
+        entry_laws();
         let device = self.device();
         add_entry_items(&mut work.items, device, pc, coming)?;
         add_push_opens(&mut work.opens, device, pc, coming)?;

@@ -10,12 +10,12 @@ use chip_law::LawfulChip;
 use irq_frames::known_laws;
 use msp430_alu::{doubles_hold, pushes_hold, singles_hold};
 use msp430_branch::{cuts_hold, facts_hold};
-use msp430_chip::{ChipState, one_front, steps_keep_form, steps_lead};
-use msp430_decode::decoded_is_the_answer;
-use msp430_entry::entries_hold;
-use msp430_resume::resumptions_cover;
-use msp430_return::returns_hold;
-use msp430_state::{states_are_ordered, states_cover, states_keep_form};
+use msp430_chip::{ChipState, step_laws};
+use msp430_decode::decoding_laws;
+use msp430_entry::entry_laws;
+use msp430_resume::resumption_laws;
+use msp430_return::return_laws;
+use msp430_state::state_laws;
 use msp430_status::{single_statuses_hold, statuses_hold};
 use unit_ways::ways_hold;
 
@@ -44,18 +44,14 @@ impl LawfulChip for Msp430Chip {
         pushes_hold();
         statuses_hold();
         single_statuses_hold();
-        entries_hold();
-        returns_hold();
-        resumptions_cover();
+        entry_laws();
+        return_laws();
+        resumption_laws();
         cuts_hold();
         facts_hold();
-        steps_lead();
-        one_front();
-        steps_keep_form();
-        decoded_is_the_answer();
-        states_are_ordered();
-        states_keep_form();
-        states_cover();
+        step_laws();
+        decoding_laws();
+        state_laws();
     }
 
     fn alike_laws() {}

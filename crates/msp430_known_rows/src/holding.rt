@@ -8,8 +8,8 @@ use crate::sets::{number_of, words_of};
 use crate::showing::are_shown;
 use abs_pages::CellPages;
 use call_context::{Cause, Frame};
-use chip_flow::{Flow, Followed, Onward};
-use chip_law::Chip;
+use chip_analysis::Chip;
+use chip_flow::{Flow, Followed, Kept, Onward};
 use msp430_decode::Instr;
 use msp430_flow::Msp430Chip;
 use msp430_state::State;
@@ -76,20 +76,26 @@ fn is_left(store: &Option<Cause>, set: &str) -> bool {
 }
 
 /// Whether a way of a jump, of which this is known, is as a row says.
-fn is_way(known: &Option<State<CellPages>>, wanted: &State<CellPages>, never: bool) -> bool {
+fn is_way(known: &Option<Kept<State<CellPages>>>, wanted: &State<CellPages>, never: bool) -> bool {
     match known {
-        Some(known) => !never && is_same(known, wanted),
+        Some(known) => !never && is_same(known.state(), wanted),
         None => never,
     }
 }
 
 /// Whether an instruction goes on where a row says, in a state in which this is known.
-fn goes_on(onward: &Onward<State<CellPages>>, words: &str, wanted: &State<CellPages>) -> bool {
+fn goes_on(
+    onward: &Onward<Kept<State<CellPages>>>,
+    words: &str,
+    wanted: &State<CellPages>,
+) -> bool {
     let place = value_of(words, "PC");
     match onward {
-        Onward::Leaves(behind) => place == "back" && is_same(behind, wanted),
+        Onward::Leaves(behind) => place == "back" && is_same(behind.state(), wanted),
         Onward::Open(targets) => is_set(targets, value_of(words, "Targets")),
-        Onward::Lands { targets, behind } => is_set(targets, place) && is_same(behind, wanted),
+        Onward::Lands { targets, behind } => {
+            is_set(targets, place) && is_same(behind.state(), wanted)
+        },
         Onward::Jumps {
             behind,
             target,

@@ -1,4 +1,5 @@
 pub mod FlagSets
+pub mod InstructionLaws
 pub mod Laws
 pub mod Results
 pub mod Rules

@@ -5,7 +5,8 @@
 //! width has it.
 //!
 //! [`operations_hold`] says what holds of the formulas: where the operands' sets have the values, the set of results has the
-//! result that the chip may make, and what is known of the flags holds of those that it sets.
+//! result that the chip may make, and what is known of the flags holds of those that it sets. [`instruction_laws`] gives this
+//! with the laws of what is known, of registers and of accesses.
 #![tactic(auto)]
 
 mod carrying;
@@ -18,5 +19,5 @@ mod results;
 mod sets;
 
 pub use flag_bits::FlagBits;
-pub use laws::operations_hold;
+pub use laws::{instruction_laws, operations_hold};
 pub use results::{double_made, kept_word, single_made, twice_made};

@@ -12,7 +12,7 @@ use Rattle.value_set.specs.Joining.{is_in}
 
 -- What a handler left stands, where it goes on, under what `resumed_known` says, with the state that was suspended before. The
 -- stack pointer at which the interrupt came is one of those that are known there. What goes on is in form.
-pub record ResumptionsCover : Type 0 where
+pub record ResumptionLaws : Type 0 where
   pub covers : (device : Device) (framed : Bool) (a exit : Known) (f t : ChipState) (first : Option ChipState)
       (vector sp level : ℕ)
       → device.ram.hi < 65536 → (framed ≡ false → first ≡ None) → IsKnown device.ram.lo device.ram.hi framed a

@@ -1,7 +1,7 @@
 //! Where a return from an interrupt of the MSP430 resumes the state that was suspended: what is known there.
 //!
 //! [`resume`] is exact by `resumed_known` (`specs/Resume.antt`): a value that came from a place of the suspended state is what
-//! that place is known to have held, and RAM that no handler touched is what it was. [`resumptions_cover`] says that what the
+//! that place is known to have held, and RAM that no handler touched is what it was. [`resumption_laws`] says that what the
 //! handler left stands under it.
 #![tactic(auto)]
 
@@ -10,5 +10,5 @@ mod places;
 mod resumed;
 mod status;
 
-pub use laws::resumptions_cover;
+pub use laws::resumption_laws;
 pub use resumed::resume;

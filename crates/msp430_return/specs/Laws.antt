@@ -21,7 +21,7 @@ use Rattle.value_set.specs.Remainders.{HasRemainder}
 -- A state that stands under what is known may only lead to one that stands under what `return_worked` says, at one of its next
 -- addresses, which are even, and its items show each access. What it says is in form. Where it goes back, it is in the frame of
 -- an interrupt that came at a known stack pointer, and goes on where that came.
-pub record ReturnsHold : Type 0 where
+pub record ReturnLaws : Type 0 where
   pub done : (device : Device) (s : ChipState) (outcome : Outcome ChipState) → (may : MayReturn device s outcome)
       → outcome ≡ done s ReturnFromInterrupt (return_accesses device s) (left_of_return s may.status may.target)
   pub left : (device : Device) (framed : Bool) (a : Known) (s : ChipState) (first : Option ChipState)

@@ -4,3 +4,4 @@ pub mod Known
 pub mod Holding
 pub mod Forms
 pub mod FormFacts
+pub mod Laws

@@ -8,13 +8,12 @@
 //! `specs/Holding.antt` says when this stands for a state of the chip, `Covers`, and of its registers and RAM alone,
 //! `HoldsOfParts`. `specs/Forms.antt` is the form of states and of their nodes.
 //!
-//! The laws are functions that do nothing:
+//! [`state_laws`] is a function that does nothing and gives the laws as one record (`specs/Laws.antt`):
 //!
-//! - [`states_are_ordered`]: being within another is an order. Two states are within their join, within the first one
-//!   widened by the second, and within the greatest.
-//! - [`states_keep_form`]: the first state and the greatest have the form, and joins and widenings keep it.
-//! - [`states_cover`]: what stands under a state stands under all that this is within, and each state behind a reset stands
-//!   under the first one.
+//! - Being within another is an order. Two states are within their join, within the first one widened by the second, and
+//!   within the greatest.
+//! - The first state and the greatest have the form, and joins and widenings keep it.
+//! - What stands under a state stands under all that this is within, and each state behind a reset stands under the first one.
 #![tactic(auto)]
 
 mod fact;
@@ -24,6 +23,6 @@ mod status;
 mod words;
 
 pub use fact::{FlagFact, is_fact_within};
-pub use laws::{states_are_ordered, states_cover, states_keep_form};
+pub use laws::state_laws;
 pub use state::State;
 pub use status::Status;

@@ -27,8 +27,8 @@ use Rattle.msp430_chip.specs.declared.device.Device.{Device}
 use Rattle.msp430_chip.specs.declared.place.Place.{Place}
 use Rattle.msp430_chip.specs.declared.place.Place.TheVariants as place
 use Rattle.msp430_chip.specs.declared.state.ChipState.{ChipState}
-use Rattle.msp430_chip.specs.Kinds.{Kind}
 use Rattle.msp430_chip.specs.Kinds.Kind.{Counter, Stack, Status, Empty, General}
+use Rattle.msp430_chip.specs.Laws.{PlaceLaws}
 use Rattle.msp430_chip.specs.Leading.{MayCount, MayDouble, at_source, behind_source, origin_of}
 use Rattle.msp430_chip.specs.Leading.MayCount.{Behind, Within}
 use Rattle.msp430_chip.specs.Leading.MayLeaveDouble.{OfResult}
@@ -51,30 +51,30 @@ use Rattle.msp430_status.proofs.BitLemmas.{AgreesBelow, places, taken_agrees}
 pub record StatusLaws : Type 0 where
   pub known : KnownLaws
   pub doubles : DoublesHold
-  pub kinds : (register : Register) → Kind register
+  pub places : PlaceLaws
 
 -- PC AS AN OPERAND
 
-reads_none : ((register : Register) → Kind register) → (origin : Source) (target : Register)
+reads_none : PlaceLaws → (origin : Source) (target : Register)
     → reads_counter origin (destination.Register target) ≡ false
-reads_none kinds (source.Register register) target = elim (kinds register) [
+reads_none places (source.Register register) target = elim (places.kinds register) [
   | Counter e ↦ ap (λ r. reads_counter (source.Register r) (destination.Register target)) e
   | Stack e ↦ ap (λ r. reads_counter (source.Register r) (destination.Register target)) e
   | Status e ↦ ap (λ r. reads_counter (source.Register r) (destination.Register target)) e
   | Empty e ↦ ap (λ r. reads_counter (source.Register r) (destination.Register target)) e
   | General is ↦ is.no_counter (destination.Register target)
 ]
-reads_none kinds other target = refl
+reads_none places other target = refl
 
 pub counter_one : (laws : StatusLaws) (pc len : ℕ) (origin : Source) (target : Register)
     → counter_set pc len origin (destination.Register target) ≡ single ((pc + len) % 65536)
-counter_one laws pc len origin target = cond-false (reads_counter origin (destination.Register target)) _ (single ((pc + len) % 65536)) (reads_none laws.kinds origin target)
+counter_one laws pc len origin target = cond-false (reads_counter origin (destination.Register target)) _ (single ((pc + len) % 65536)) (reads_none laws.places origin target)
 
 counts_behind : (laws : StatusLaws) (s : ChipState) (len : ℕ) (origin : Source) (target : Register) (counted : ℕ)
     → MayCount s len origin (destination.Register target) counted
     → counted ≡ behind s len
 counts_behind laws s len origin target counted (Behind none is) = is
-counts_behind laws s len origin target counted (Within some option few is) = absurd (false≢true (sym (reads_none laws.kinds origin target) ∙ some))
+counts_behind laws s len origin target counted (Within some option few is) = absurd (false≢true (sym (reads_none laws.places origin target) ∙ some))
 
 -- MOVES
 
@@ -130,7 +130,7 @@ moved laws {device} {s} {len} {width} {origin} {outcome} may target =
         y = 0;
         bits = free.chosen;
         left = left;
-        counts = Behind (reads_none laws.kinds origin target) (counts_behind laws s len origin Sr may.counted may.counts);
+        counts = Behind (reads_none laws.places origin target) (counts_behind laws s len origin Sr may.counted may.counts);
         reads = may.reads;
         held = refl;
         free = free.option;
@@ -199,7 +199,7 @@ moved_normal laws {device} {framed} {a} pc len width origin is form from_so =
 
 with_length : (laws : StatusLaws) (registers : List ℕ) (register : Register) (value : ℕ)
     → length (with_register registers register value) ≡ length registers
-with_length laws registers register value = elim (laws.kinds register) [
+with_length laws registers register value = elim (laws.places.kinds register) [
   | Counter e ↦ rw e (length-set registers 0 (even value))
   | Stack e ↦ rw e (length-set registers 1 (even value))
   | Status e ↦ rw e (length-set registers 2 (value % 512))

@@ -61,7 +61,7 @@ source_small laws {device} {s} Byte {origin} under from_so may =
 
 pointer_status : (laws : StatusLaws) (registers : List ℕ) (register : Register) (value : ℕ) → IsPointer register
     → get_or (with_register registers register value) 2 0 ≡ get_or registers 2 0
-pointer_status laws registers register value pointer = elim (laws.kinds register) [
+pointer_status laws registers register value pointer = elim (laws.places.kinds register) [
   | Counter e ↦ absurd (subst IsPointer e pointer)
   | Stack e ↦ ap (λ r. get_or (with_register registers r value) 2 0) e ∙ get_or-set_other registers 1 2 (even value) 0 (λ e. omega (arith, e))
   | Status e ↦ absurd (subst IsPointer e pointer)

@@ -4,7 +4,7 @@ ghost use Rattle.msp430_status.specs.Laws.{SingleStatusesHold, StatusesHold};
 
 use irq_frames::known_laws;
 use msp430_alu::doubles_hold;
-use msp430_chip::registers_of_five_kinds;
+use msp430_chip::place_laws;
 
 /// The law of instructions with two operands that write SR. A state that stands under what is known may only lead to one
 /// that stands under what `status_worked` says, at its next address. Its items show each access, and no store hits the
@@ -14,7 +14,7 @@ pub fn statuses_hold()
 {
     known_laws();
     doubles_hold();
-    registers_of_five_kinds();
+    place_laws();
 }
 
 /// The same of instructions with the one operand SR: `single_status_worked`.

@@ -1,4 +1,5 @@
 pub mod ClosingLemmas
+pub mod CountLemmas
 pub mod GreatestLemmas
 pub mod LeastLemmas
 pub mod OneStackLemmas

@@ -7,8 +7,8 @@ use Rattle.std.proofs.lemmas.Map.Made.{Contains-values_of}
 use Rattle.call_context.specs.declared.node.Node.{Node}
 use Rattle.call_context.specs.declared.node.Unit.{Unit as WorkUnit}
 use Rattle.call_context.specs.declared.shown.Item.{Item}
-use Rattle.chip_law.specs.Analysis.{Analysis}
-use Rattle.chip_law.specs.declared.chip.Work.{Work}
+use Rattle.chip_analysis.specs.Analysis.{Analysis}
+use Rattle.chip_analysis.specs.declared.chip.Work.{Work}
 use Rattle.closing_law.specs.ClosedBook.{HaveSame, IsClosedBook}
 use Rattle.report_text.specs.Deepest.{deepest_of}
 use Rattle.report_text.specs.Report.{are_closed, items_of, lines_of, report_of, report_text, with_lines}

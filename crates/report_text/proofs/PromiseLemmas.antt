@@ -8,13 +8,13 @@ use Rattle.std.proofs.lemmas.Map.Made.{Contains-values_of}
 use Rattle.call_context.specs.declared.node.Node.{Node}
 use Rattle.call_context.specs.declared.node.Unit.{Unit as WorkUnit}
 use Rattle.call_context.specs.declared.shown.Cause.{Cause}
-use Rattle.chip_law.specs.Analysis.{Analysis}
-use Rattle.chip_law.specs.declared.chip.Work.{Work}
+use Rattle.chip_analysis.specs.Analysis.{Analysis}
+use Rattle.chip_analysis.specs.declared.chip.Work.{Work}
 use Rattle.chip_law.specs.Laws.{Cover}
 use Rattle.item_lines.specs.Line.{item_line_of, open_line_of}
 use Rattle.chip_law.specs.Machine.{Machine}
 use Rattle.item_lines.specs.Shown.{HasLine}
-use Rattle.chip_law.specs.Table.{IsUnitOver}
+use Rattle.chip_analysis.specs.Table.{IsUnitOver}
 use Rattle.closing_law.specs.ClosedBook.{IsClosedBook, table_in}
 use Rattle.closing_law.specs.Covered.{NoneIsOpen, AreCovering, CoversRuns, IsBroken}
 use Rattle.round_core.specs.Machine.{BookState, Done, done_at, replay, IsLegalJournal, IsFinished, IsUnit}

@@ -8,7 +8,7 @@ use Rattle.std.specs.Cmp.Lexicographic.{slice_cmp}
 use Rattle.std.specs.declared.cmp.Ordering.TheVariants.{Less, Equal, Greater}
 use Rattle.call_context.specs.declared.shown.Item.{Item}
 use Rattle.std.proofs.Math.Bool.{and-true, and_assoc}
-use Rattle.chip_law.specs.declared.chip.Work.{Work}
+use Rattle.chip_analysis.specs.declared.chip.Work.{Work}
 use Rattle.report_text.specs.declared.deepest.Deepest.{Deepest}
 use Rattle.report_text.specs.Deepest.{deepest_of, deeper_of, deepest_in}
 use Rattle.report_text.specs.Report.{bytes_of, with_lines, are_closed, is_empty}

@@ -2,7 +2,7 @@
 use Rattle.std.proofs.Common.{◌≡◌, true, List, [], ◌∷◌, refl, ap, subst, ◌∙◌, inl, inr}
 use Rattle.std.specs.Prelude.{ℕ, ◌&&◌}
 use Rattle.call_context.specs.declared.shown.Cause.{Cause}
-use Rattle.chip_law.specs.declared.chip.Work.{Work}
+use Rattle.chip_analysis.specs.declared.chip.Work.{Work}
 use Rattle.closing_law.specs.Covered.{NoneIsOpen}
 use Rattle.plain_lemmas.specs.Cases.{both}
 use Rattle.plain_lemmas.specs.Members.{in_cons, in_first, in_none, in_rest}

@@ -1,4 +1,5 @@
 pub mod ClosedWorks
+pub mod Counting
 pub mod Deepest
 pub mod Promise
 pub mod Report

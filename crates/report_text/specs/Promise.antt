@@ -5,13 +5,13 @@ use Rattle.call_context.specs.declared.node.Unit.{Unit as WorkUnit}
 use Rattle.call_context.specs.declared.shown.Item.{Item}
 use Rattle.call_context.specs.declared.shown.Cause.{Cause}
 use Rattle.chip_numbers.specs.Single.{Single}
-use Rattle.chip_law.specs.Analysis.{Analysis}
-use Rattle.chip_law.specs.declared.chip.Work.{Work}
+use Rattle.chip_analysis.specs.Analysis.{Analysis}
+use Rattle.chip_analysis.specs.declared.chip.Work.{Work}
 use Rattle.item_lines.specs.Line.{item_line_of, open_line_of}
 use Rattle.chip_law.specs.Machine.{Machine}
 use Rattle.chip_law.specs.Runs.{Meets, GoesWild}
 use Rattle.item_lines.specs.Shown.{HasLine, IsShownIn}
-use Rattle.chip_law.specs.Table.{IsUnitOver}
+use Rattle.chip_analysis.specs.Table.{IsUnitOver}
 use Rattle.closing_law.specs.Covered.{IsBroken}
 use Rattle.round_core.specs.Machine.{replay}
 use Rattle.round_core.specs.declared.event.Event.{Event}

@@ -6,7 +6,7 @@ use Rattle.call_context.specs.declared.node.Unit.{Unit as WorkUnit}
 use Rattle.call_context.specs.declared.shown.Item.{Item}
 use Rattle.call_context.specs.declared.shown.Item.TheVariants.{Stack}
 use Rattle.call_context.specs.declared.shown.Set.TheVariants.{B, W}
-use Rattle.chip_law.specs.Analysis.{Analysis}
+use Rattle.chip_analysis.specs.Analysis.{Analysis}
 
 -- no item shows a byte as a stack pointer
 abbrev pub HasNoByteStack : List Item → Type 0

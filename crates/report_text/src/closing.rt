@@ -5,7 +5,7 @@ ghost use Rattle.report_text.specs.Report.{are_closed, last_works};
 ghost use Rattle.round_core.specs.Machine.{replay, IsClosed, IsFinished, IsLegalJournal};
 ghost use Rattle.round_core.specs.declared.event.Event.{Event as AnEvent};
 
-use chip_law::Chip;
+use chip_analysis::Chip;
 use round_core::{live_pairs_are_units, live_works_are_of_units};
 
 /// The report of a finished book says that it is closed exactly where the book is.

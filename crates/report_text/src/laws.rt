@@ -3,7 +3,7 @@
 ghost use Rattle.std.specs.Prelude.{◌≡◌, true, false, Bool, ℕ, List, IsPermutation};
 ghost use Rattle.call_context.specs.declared.node.Node.{Node};
 ghost use Rattle.call_context.specs.declared.node.Unit.{Unit as WorkUnit};
-ghost use Rattle.chip_law.specs.declared.chip.Work.{Work};
+ghost use Rattle.chip_analysis.specs.declared.chip.Work.{Work};
 ghost use Rattle.closing_law.specs.ClosedBook.{HaveSame, IsClosedBook};
 ghost use Rattle.report_text.specs.Promise.{CoversEveryRun, ShowsOpenSites, ShowsTable};
 ghost use Rattle.report_text.specs.Report.{are_closed, closed_report, items_of, last_works, report_of, report_of_journal};
@@ -12,7 +12,8 @@ ghost use Rattle.round_core.specs.Machine.{replay, IsFinished, IsLegalJournal};
 ghost use Rattle.round_core.specs.Table.{table_of};
 ghost use Rattle.round_core.specs.declared.event.Event.{Event as AnEvent};
 
-use chip_law::{Chip, LawfulChip};
+use chip_analysis::Chip;
+use chip_law::LawfulChip;
 use closing_law::{
     closed_books_cover_runs, closed_tables_cover_runs, opens_break_limits, tables_have_no_order,
 };

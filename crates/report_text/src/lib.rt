@@ -2,7 +2,8 @@
 //!
 //! Proved:
 //!
-//! - [`report_of`] and [`print_book`] give exactly the report of a book (`specs/Report.antt`).
+//! - [`report_of`] and [`print_book`] give exactly the report of a book (`specs/Report.antt`), and the first also what a
+//!   summary tells of it: the deepest stack pointer, and how many lines there are of each kind.
 //! - [`closed_report_of`] and [`print_closed`] give exactly the report of a closed book. It says CLOSED, covers every run,
 //!   and has the line of each item of the table; so does that of any closed table's works ([`closed_works_cover_runs`]).
 //! - [`least_number`] is one of a set's numbers, and none is less; [`greatest_number`] is one, and none is greater.
@@ -16,6 +17,7 @@
 mod closing;
 mod deepest;
 mod laws;
+mod lines;
 mod print;
 mod report;
 
@@ -25,6 +27,7 @@ pub use laws::{
     closed_reports_are_of_tables, closed_reports_cover_runs, closed_works_cover_runs,
     open_reports_show_sites, reports_have_no_order, reports_show_tables,
 };
+pub use lines::Counts;
 pub use print::{print_book, print_closed};
-pub use report::{Report, closed_report_of, report_of};
-pub use vsa_io::PrintError;
+pub use report::{Report, closed_report_of, head_line, push_summary, report_of};
+pub use streams::PrintError;

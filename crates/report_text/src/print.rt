@@ -5,15 +5,16 @@ ghost use Rattle.closing_law.specs.ClosedBook.{table_in};
 ghost use Rattle.report_text.specs.Promise.{CoversEveryRun, ShowsTable};
 ghost use Rattle.report_text.specs.Report.{IsReport, closed_report};
 ghost use Rattle.round_core.specs.Machine.{replay};
-ghost use Rattle.vsa_io.specs.Stream.{AppendsPrefix, HasRisen, appended};
+ghost use Rattle.streams.specs.Stream.{AppendsPrefix, HasRisen, appended};
 
 use crate::report::{closed_report_of, report_of};
-use chip_law::{Chip, LawfulChip};
+use chip_analysis::Chip;
+use chip_law::LawfulChip;
 use closing_law::ClosedBook;
 use item_lines::InstrText;
 use round_core::Book;
 use std::alloc::Global;
-use vsa_io::{PrintError, Sink, write_all};
+use streams::{PrintError, Sink, write_all};
 
 /// Writes a text, of which a prefix stands where the sink fails.
 fn put_text<K: Sink>(sink: &mut K, text: &[u8]) -> Result<(), PrintError>

@@ -1,50 +1,34 @@
 //! The report of a book.
 
-ghost use Rattle.std.specs.Prelude.{◌≡◌, ◌++◌, ◌∷◌, ◌&&◌, if◌then◌else◌, true, [], None, map, count_by, IfOk, OnOk};
+ghost use Rattle.std.specs.Prelude.{◌≡◌, ◌++◌, ◌&&◌, if◌then◌else◌, true, [], None, map, IfOk, OnOk};
 ghost use Rattle.closing_law.specs.ClosedBook.{table_in};
 ghost use Rattle.report_text.specs.Promise.{CoversEveryRun, ShowsTable};
 ghost use Rattle.round_core.specs.Kept.{live_works};
 ghost use Rattle.round_core.specs.Machine.{replay};
 ghost use Rattle.report_text.specs.Deepest.{deepest_of as the_deepest_of, deepest_text};
-ghost use Rattle.report_text.specs.Report.{with_lines, lines_of, is_empty, are_closed, is_whole_stack as tells_whole_stack, report_text, bytes_of, closed_report, summary_of, IsReportOf};
-ghost use Rattle.std.specs.BTreeSet.{insert_key};
-ghost use Rattle.std.specs.Cmp.Lexicographic.{slice_cmp};
-ghost use Rattle.std.specs.List.{flat_map};
+ghost use Rattle.report_text.specs.Report.{with_lines, lines_of, reported_lines, items_of, is_empty, are_closed, report_text, closed_report, counts_of, head_line as the_head_line, summary_line, IsReportOf};
 ghost use Rattle.std.specs.Map.{values_of};
-ghost use Rattle.std.specs.Ordering.{nat_cmp};
 ghost use Rattle.item_lines.specs.Line.{item_line_of, open_line_of};
 
 use crate::deepest::{Deepest, deepest_of};
+use crate::lines::{Counts, Lines};
 use call_context::{Cause, Item, Unit};
-use chip_law::{Chip, LawfulChip, Work};
+use chip_analysis::{Chip, Work};
+use chip_law::LawfulChip;
 use closing_law::ClosedBook;
 use hex_digits::{hex_byte, hex_word};
 use item_lines::{InstrText, item_line, open_line};
 use no_memory::Memory;
 use round_core::Book;
 use std::alloc::{AllocError, Global};
-use std::collections::BTreeSet;
 
-/// The text of a report, and whether it is closed.
+/// The text of a report, whether it is closed, and what a summary of it tells.
 #[derive(Drop)]
 pub struct Report {
     pub text: Vec<u8>,
     pub is_closed: bool,
-}
-
-/// Whether a line tells a whole set of stack pointers.
-fn is_whole_stack(line: &[u8]) -> bool
-    ensures { result ≡ tells_whole_stack line.now }
-{
-    line.starts_with(b"S ") && (line.ends_with(b" *") || line.ends_with(b" 0000/2/8000"))
-}
-
-/// Puts a line into a set.
-fn add_line(lines: &mut BTreeSet<Vec<u8>>, line: Vec<u8>) -> Result<(), AllocError>
-    ensures { OnOk result (bytes_of lines.new.keys ≡ insert_key (slice_cmp nat_cmp) (bytes_of lines.old.keys) line.items) }
-{
-    lines.insert(line)?;
-    Ok(())
+    pub deepest: Option<Deepest>,
+    pub counts: Counts,
 }
 
 /// Puts the lines of items into a set.
@@ -52,26 +36,22 @@ fn add_items<C: Chip + InstrText>(
     alloc: Global,
     chip: &C,
     items: &[Item],
-    lines: &mut BTreeSet<Vec<u8>>,
+    lines: &mut Lines,
 ) -> Result<(), Memory>
-    ensures { OnOk result (bytes_of lines.new.keys ≡ with_lines (bytes_of lines.old.keys) (map (item_line_of (C.text_of chip.now)) items.now)) }
+    ensures { OnOk result (lines.new ≡ with_lines lines.old (map (item_line_of (C.text_of chip.now)) items.now)) }
 {
     for item in items {
-        add_line(lines, item_line(alloc, chip, item)?)?;
+        lines.add(item_line(alloc, chip, item)?)?;
     }
     Ok(())
 }
 
 /// Puts the lines of opens into a set.
-fn add_opens(
-    alloc: Global,
-    opens: &[(u16, Cause)],
-    lines: &mut BTreeSet<Vec<u8>>,
-) -> Result<(), Memory>
-    ensures { OnOk result (bytes_of lines.new.keys ≡ with_lines (bytes_of lines.old.keys) (map (λ o. open_line_of o.0 o.1) opens.now)) }
+fn add_opens(alloc: Global, opens: &[(u16, Cause)], lines: &mut Lines) -> Result<(), Memory>
+    ensures { OnOk result (lines.new ≡ with_lines lines.old (map (λ o. open_line_of o.0 o.1) opens.now)) }
 {
     for (pc, cause) in opens {
-        add_line(lines, open_line(alloc, *pc, cause)?)?;
+        lines.add(open_line(alloc, *pc, cause)?)?;
     }
     Ok(())
 }
@@ -79,7 +59,7 @@ fn add_opens(
 /// What is told of works.
 #[derive(Drop)]
 struct Told {
-    lines: BTreeSet<Vec<u8>>,
+    lines: Lines,
     is_closed: bool,
     deepest: Option<Deepest>,
 }
@@ -92,7 +72,7 @@ fn tell<C: Chip + InstrText>(
     is_live: bool,
     told: &mut Told,
 ) -> Result<(), Memory>
-    ensures lines { OnOk result (bytes_of told.new.lines.keys ≡ with_lines (bytes_of told.old.lines.keys) (if is_live then lines_of (C.text_of chip.now) work.now else [])) }
+    ensures lines { OnOk result (told.new.lines ≡ with_lines told.old.lines (if is_live then lines_of (C.text_of chip.now) work.now else [])) }
     ensures closed { OnOk result (told.new.is_closed ≡ (told.old.is_closed && (if is_live then is_empty work.now.opens else true))) }
     ensures deepest { OnOk result (told.new.deepest ≡ the_deepest_of told.old.deepest (if is_live then work.now.items else [])) }
 {
@@ -108,12 +88,12 @@ fn tell<C: Chip + InstrText>(
 
 /// What is told of the last works of a book's units.
 fn tell_all<C: Chip + InstrText>(alloc: Global, chip: &C, book: &Book<C>) -> Result<Told, Memory>
-    ensures lines { IfOk result (λ told. bytes_of told.lines.keys ≡ with_lines [] (flat_map (lines_of (C.text_of chip.now)) (live_works (replay (C.analysis book.now.base) book.now.journal)))) }
+    ensures lines { IfOk result (λ told. told.lines ≡ reported_lines (C.text_of chip.now) (live_works (replay (C.analysis book.now.base) book.now.journal))) }
     ensures closed { IfOk result (λ told. told.is_closed ≡ are_closed (live_works (replay (C.analysis book.now.base) book.now.journal))) }
-    ensures deepest { IfOk result (λ told. told.deepest ≡ the_deepest_of None (flat_map (λ work. work.items) (live_works (replay (C.analysis book.now.base) book.now.journal)))) }
+    ensures deepest { IfOk result (λ told. told.deepest ≡ the_deepest_of None (items_of (live_works (replay (C.analysis book.now.base) book.now.journal)))) }
 {
     let mut told = Told {
-        lines: BTreeSet::new(alloc),
+        lines: Lines::new(alloc),
         is_closed: true,
         deepest: None,
     };
@@ -130,12 +110,12 @@ fn tell_each<C: Chip + InstrText>(
     chip: &C,
     works: &[(Unit, Work<C::Abs>)],
 ) -> Result<Told, Memory>
-    ensures lines { IfOk result (λ told. bytes_of told.lines.keys ≡ with_lines [] (flat_map (lines_of (C.text_of chip.now)) (values_of works.now))) }
+    ensures lines { IfOk result (λ told. told.lines ≡ reported_lines (C.text_of chip.now) (values_of works.now)) }
     ensures closed { IfOk result (λ told. told.is_closed ≡ are_closed (values_of works.now)) }
-    ensures deepest { IfOk result (λ told. told.deepest ≡ the_deepest_of None (flat_map (λ work. work.items) (values_of works.now))) }
+    ensures deepest { IfOk result (λ told. told.deepest ≡ the_deepest_of None (items_of (values_of works.now))) }
 {
     let mut told = Told {
-        lines: BTreeSet::new(alloc),
+        lines: Lines::new(alloc),
         is_closed: true,
         deepest: None,
     };
@@ -143,30 +123,6 @@ fn tell_each<C: Chip + InstrText>(
         tell(alloc, chip, work, true, &mut told)?;
     }
     Ok(told)
-}
-
-/// The number of lines that tell a whole set of stack pointers.
-fn count_whole(lines: &BTreeSet<Vec<u8>>) -> u64
-    ensures { result ≡ count_by tells_whole_stack (bytes_of lines.now.keys) }
-{
-    let mut count = 0;
-    for line in lines {
-        if is_whole_stack(line.as_slice()) {
-            count += 1;
-        }
-    }
-    count
-}
-
-/// Adds lines with a line feed each.
-fn push_lines(text: &mut Vec<u8>, lines: &BTreeSet<Vec<u8>>) -> Result<(), AllocError>
-    ensures { OnOk result (text.new.items ≡ text.old.items ++ flat_map (λ line. line ++ 10 ∷ []) (bytes_of lines.now.keys)) }
-{
-    for line in lines {
-        text.extend_from_slice(line.as_slice())?;
-        text.push(b'\n')?;
-    }
-    Ok(())
 }
 
 /// Adds the deepest stack pointer.
@@ -180,35 +136,37 @@ fn push_deepest(text: &mut Vec<u8>, deepest: Option<Deepest>) -> Result<(), Allo
     }
 }
 
-/// Adds the summary.
-fn push_summary(
+/// Adds the summary: the deepest stack pointer, and how many lines tell a whole set of them.
+pub fn push_summary(
     text: &mut Vec<u8>,
     deepest: Option<Deepest>,
-    lines: &BTreeSet<Vec<u8>>,
+    whole: u64,
 ) -> Result<(), AllocError>
-    ensures { OnOk result (text.new.items ≡ text.old.items ++ summary_of deepest (bytes_of lines.now.keys)) }
+    ensures { OnOk result (text.new.items ≡ text.old.items ++ summary_line deepest whole) }
 {
-    let count = count_whole(lines);
     text.extend_from_slice(b"T ")?;
     push_deepest(text, deepest)?;
-    let count = count.to_string(*text.allocator())?;
+    let whole = whole.to_string(*text.allocator())?;
     text.push(b' ')?;
-    text.extend_from_slice(count.as_str().as_bytes())?;
+    text.extend_from_slice(whole.as_str().as_bytes())?;
     text.push(b'\n').map_err(AllocError::from)
+}
+
+/// The first line of a report, with its line feed.
+pub fn head_line(is_closed: bool) -> &'static [u8]
+    ensures { result.now ≡ the_head_line is_closed }
+{
+    if is_closed { b"CLOSED\n" } else { b"OPEN\n" }
 }
 
 /// The text of what was told.
 fn text_of(alloc: Global, told: &Told) -> Result<Vec<u8>, AllocError>
-    ensures { IfOk result (λ text. text.items ≡ report_text told.now.is_closed (bytes_of told.now.lines.keys) told.now.deepest) }
+    ensures { IfOk result (λ text. text.items ≡ report_text told.now.is_closed told.now.lines told.now.deepest) }
 {
     let mut text = Vec::new(alloc);
-    text.extend_from_slice(if told.is_closed {
-        b"CLOSED\n"
-    } else {
-        b"OPEN\n"
-    })?;
-    push_lines(&mut text, &told.lines)?;
-    push_summary(&mut text, told.deepest, &told.lines)?;
+    text.extend_from_slice(head_line(told.is_closed))?;
+    told.lines.push_to(&mut text)?;
+    push_summary(&mut text, told.deepest, told.lines.counts().whole)?;
     Ok(text)
 }
 
@@ -218,7 +176,12 @@ pub fn report_of<C: Chip + InstrText>(
     chip: &C,
     book: &Book<C>,
 ) -> Result<Report, Memory>
-    ensures { IfOk result (λ report. IsReportOf (C.text_of chip.now) (replay (C.analysis book.now.base) book.now.journal) report.text.items report.is_closed) }
+    ensures report { IfOk result (λ report. IsReportOf (C.text_of chip.now)
+        (replay (C.analysis book.now.base) book.now.journal) report.text.items report.is_closed) }
+    ensures deepest { (let works = live_works (replay (C.analysis book.now.base) book.now.journal) in
+        IfOk result (λ report. report.deepest ≡ the_deepest_of None (items_of works))) }
+    ensures counts { (let works = live_works (replay (C.analysis book.now.base) book.now.journal) in
+        IfOk result (λ report. report.counts ≡ counts_of (reported_lines (C.text_of chip.now) works))) }
 {
     let mut told = tell_all(alloc, chip, book)?;
     told.is_closed = book.finished() && told.is_closed;
@@ -226,6 +189,8 @@ pub fn report_of<C: Chip + InstrText>(
     Ok(Report {
         text,
         is_closed: told.is_closed,
+        deepest: told.deepest,
+        counts: told.lines.counts(),
     })
 }
 

@@ -3,7 +3,7 @@ use Rattle.std.specs.Prelude.{◌≡◌, ℕ, zero, suc, Option, None, Some, Lis
 use Rattle.std.proofs.Common.{sym, ◌∙◌, ap, subst, subst₂, arith}
 use Rattle.std.proofs.lemmas.Option.{same_Some}
 use Rattle.call_context.specs.declared.node.Node.{Node}
-use Rattle.chip_law.specs.Analysis.{Analysis}
+use Rattle.chip_analysis.specs.Analysis.{Analysis}
 use Rattle.round_core.specs.Ahead.{AreBefore, AreLooked, IsLooked, IsRow, IsStill}
 use Rattle.round_core.specs.declared.ahead.Looked.{Looked}
 use Rattle.round_core.specs.Machine.{Held, held_at}

@@ -10,7 +10,7 @@ use Rattle.round_core.proofs.SameLaws.{same_unit-refl, same_unit-eq}
 use Rattle.round_core.specs.declared.versions.Versions.{Versions}
 use Rattle.round_core.specs.declared.event.Event.{Event}
 use Rattle.round_core.specs.declared.event.Event.TheVariants.{Claim, Post, GiveBack}
-use Rattle.chip_law.specs.Analysis.{Analysis, KeepsForm, TopIsGreatest}
+use Rattle.chip_analysis.specs.Analysis.{Analysis, KeepsForm, TopIsGreatest}
 use Rattle.round_core.proofs.RiseLaws.{AreInBounds}
 use Rattle.round_core.proofs.EntryLaws.{AreUpTo, done_at-all, out_at-all, all-any, done_at-with_done, done_at-with_done_other, out_at-without, out_at-without_other, out_at-push, out_at-push_other}
 use Rattle.round_core.proofs.ReplayLaws.{IsSteady, IsSteady-after, IsSteady-replay, IsSteady-opening, IsWellOut, IsWellDone, taken, after-claim, after-post, after-give_back, inputs_of-unit, versions_of-least, AreRisen, AreRisen-after}

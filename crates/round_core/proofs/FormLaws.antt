@@ -8,7 +8,7 @@ use Rattle.call_context.specs.declared.node.Unit.{Unit as WorkUnit}
 use Rattle.call_context.specs.declared.node.Unit.TheVariants.{One, Back}
 use Rattle.round_core.specs.declared.event.Event.{Event}
 use Rattle.round_core.specs.declared.event.Event.TheVariants.{Claim, Post, GiveBack}
-use Rattle.chip_law.specs.Analysis.{Analysis, AreFormed, KeepsForm, TopIsGreatest}
+use Rattle.chip_analysis.specs.Analysis.{Analysis, AreFormed, KeepsForm, TopIsGreatest}
 use Rattle.round_core.proofs.RiseLaws.{PostsAreFormed, AreInBounds, held_at-in_bounds, all_raised-in_bounds}
 use Rattle.round_core.proofs.HeldLaws.{option_map-some, held_at-node, version_of-held, version_of-none}
 use Rattle.round_core.proofs.EntryLaws.{all_of, inputs_of-back, out_at-all, all-push, all-with_done, all-without}

@@ -8,7 +8,7 @@ use Rattle.std.proofs.lemmas.Bool.{cases_Bool, cond-true, cond-false, false_from
 use Rattle.call_context.specs.declared.node.Node.{Node}
 use Rattle.round_core.specs.Same.{same_node}
 use Rattle.round_core.proofs.SameLaws.{same_node-refl, same_node-eq}
-use Rattle.chip_law.specs.Analysis.{Analysis}
+use Rattle.chip_analysis.specs.Analysis.{Analysis}
 use Rattle.round_core.specs.Counts.{AreApart}
 use Rattle.round_core.specs.Machine.{Held, held_at, place_of, version_of, risen_state, risen, raised, all_raised}
 use Rattle.round_core.specs.Stays.{Stays, AllStay}

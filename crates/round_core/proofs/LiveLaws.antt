@@ -9,8 +9,8 @@ use Rattle.call_context.specs.declared.node.Unit.TheVariants.{One, Back}
 use Rattle.plain_lemmas.specs.Members.{in_none, in_cons, in_first, in_rest}
 use Rattle.round_core.specs.Same.{same_unit}
 use Rattle.round_core.proofs.SameLaws.{same_unit-eq}
-use Rattle.chip_law.specs.Analysis.{Analysis, AreFormed, KeepsForm, TopIsGreatest}
-use Rattle.chip_law.specs.declared.chip.Work.{Work}
+use Rattle.chip_analysis.specs.Analysis.{Analysis, AreFormed, KeepsForm, TopIsGreatest}
+use Rattle.chip_analysis.specs.declared.chip.Work.{Work}
 use Rattle.round_core.specs.declared.event.Event.{Event}
 use Rattle.round_core.specs.declared.event.Event.TheVariants.{Claim, Post, GiveBack}
 use Rattle.round_core.specs.Kept.{is_live, live_pairs, live_works}

@@ -6,7 +6,7 @@ use Rattle.std.proofs.lemmas.Option.{same_Some}
 use Rattle.call_context.specs.declared.node.Unit.{Unit as WorkUnit}
 use Rattle.round_core.specs.Same.{same_unit}
 use Rattle.round_core.proofs.SameLaws.{same_unit-eq, same_unit-refl}
-use Rattle.chip_law.specs.Analysis.{Analysis}
+use Rattle.chip_analysis.specs.Analysis.{Analysis}
 use Rattle.round_core.specs.Counts.{seat_of, NoneOfSeat, unit_of}
 use Rattle.round_core.specs.Machine.{BookState, Out, out_at, without, with_out, inputs_of, after, posted, replay_from, IsFirst, IsLegal, AllLegal}
 use Rattle.round_core.specs.declared.event.Event.{Event}

@@ -88,7 +88,7 @@ module _ {A : Type 0} where
   one-place : (hs : List (Held A)) (n : Node) (p : Place) → placed hs (unit.One n) ≡ Some p → (i : ℕ) × (place_of hs n ≡ Some i)
   one-place hs n p e = let i = map_some (λ (i : ℕ). place.One i) (place_of hs n) p e in (i.0, i.1)
 
-module _ {A : Type 0} (b : BookState A) (p p' : Parts A) (o : Out A) (work : Rattle.chip_law.specs.declared.chip.Work.Work A) (raised : List (Held A)) (mid : Agenda)
+module _ {A : Type 0} (b : BookState A) (p p' : Parts A) (o : Out A) (work : Rattle.chip_analysis.specs.declared.chip.Work.Work A) (raised : List (Held A)) (mid : Agenda)
     (s : Shows b p) (is : out_at b.out o.unit ≡ Some o) (d : AreDistinct raised)
     (er : ExpectsRows b.done p.agenda mid (with_all b.nodes raised) raised) (g1 : Grows p.agenda mid)
     (eu : ExpectsUnit mid p'.agenda b.nodes o.unit o.versions work.waits) (g2 : Grows mid p'.agenda)

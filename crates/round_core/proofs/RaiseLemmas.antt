@@ -5,7 +5,7 @@ use Rattle.std.proofs.Common.{refl, sym, ◌∙◌, ap, subst, inl, inr, arith}
 use Rattle.call_context.specs.declared.node.Node.{Node}
 use Rattle.round_core.specs.Same.{same_node}
 use Rattle.round_core.proofs.SameLaws.{same_node-eq, same_node-refl}
-use Rattle.chip_law.specs.Analysis.{Analysis}
+use Rattle.chip_analysis.specs.Analysis.{Analysis}
 use Rattle.round_core.specs.Machine.{Held, held_at, place_of, with_held, risen, raised, all_raised}
 use Rattle.round_core.specs.Raise.{with_all}
 use Rattle.round_core.specs.Shown.{AreDistinct}

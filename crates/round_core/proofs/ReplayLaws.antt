@@ -9,7 +9,7 @@ use Rattle.call_context.specs.declared.node.Node.TheVariants.{At, Exit}
 use Rattle.call_context.specs.declared.node.Unit.{Unit as WorkUnit}
 use Rattle.call_context.specs.declared.node.Unit.TheVariants.{One, Back}
 use Rattle.round_core.specs.Same.{same_node}
-use Rattle.chip_law.specs.Analysis.{Analysis}
+use Rattle.chip_analysis.specs.Analysis.{Analysis}
 use Rattle.round_core.specs.declared.event.Event.{Event}
 use Rattle.round_core.specs.declared.event.Event.TheVariants.{Claim, Post, GiveBack}
 use Rattle.round_core.proofs.HeldLaws.{AllStay-refl, AllStay-trans, AllStay-all_raised, AreApart-all_raised, place_of-held, place_of-one, Stays-risen, raised-here, raised-there, held_at-all, version_of-held}

@@ -6,7 +6,7 @@ use Rattle.std.proofs.lemmas.Bool.{cases_Bool, cond-true, cond-false, false≢tr
 use Rattle.call_context.specs.declared.node.Node.{Node}
 use Rattle.round_core.specs.Same.{same_node}
 use Rattle.round_core.proofs.SameLaws.{same_node-eq}
-use Rattle.chip_law.specs.Analysis.{Analysis, KeepsForm, TopIsGreatest, IsOrdered}
+use Rattle.chip_analysis.specs.Analysis.{Analysis, KeepsForm, TopIsGreatest, IsOrdered}
 use Rattle.round_core.specs.Table.{IsUnder}
 use Rattle.round_core.specs.Machine.{Held, held_at, risen_state, risen, raised, all_raised}
 use Rattle.round_core.proofs.HeldLaws.{held_at-all, held_at-node, held_at-raised, held_at-raised_other, raised-here, raised-there, entry_after, Stays-risen}

@@ -13,8 +13,8 @@ use Rattle.round_core.proofs.HeldLaws.{option_map-some}
 use Rattle.round_core.proofs.EntryLaws.{each_of, inputs_of-found}
 use Rattle.round_core.proofs.ReplayLaws.{IsSteady}
 use Rattle.round_core.proofs.WorkLaws.{IsServed, finished-done, finished-under}
-use Rattle.chip_law.specs.Analysis.{Analysis, KeepsForm, TopIsGreatest}
-use Rattle.chip_law.specs.Table.{IsUnitOver, IsHeldIn, IsClosedTable, IsFormedTable}
+use Rattle.chip_analysis.specs.Analysis.{Analysis, KeepsForm, TopIsGreatest}
+use Rattle.chip_analysis.specs.Table.{IsUnitOver, IsHeldIn, IsClosedTable, IsFormedTable}
 use Rattle.round_core.specs.Table.{table_of, IsUnder}
 use Rattle.round_core.proofs.FormLaws.{IsInForm-replay, held_at-form}
 use Rattle.round_core.proofs.WaitLemmas.{waits_found, any_waits}

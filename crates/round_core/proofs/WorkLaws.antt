@@ -6,7 +6,7 @@ use Rattle.call_context.specs.declared.node.Unit.{Unit as WorkUnit}
 use Rattle.round_core.proofs.SameLaws.{same_node-refl}
 use Rattle.round_core.specs.declared.event.Event.{Event}
 use Rattle.round_core.specs.declared.event.Event.TheVariants.{Claim, Post, GiveBack}
-use Rattle.chip_law.specs.Analysis.{Analysis, AreFormed, KeepsForm, IsOrdered}
+use Rattle.chip_analysis.specs.Analysis.{Analysis, AreFormed, KeepsForm, IsOrdered}
 use Rattle.round_core.proofs.RiseLaws.{PostsAreFormed, AreUnder, AreUnder-all_raised, IsUnder-all_raised, all_raised-under}
 use Rattle.round_core.proofs.HeldLaws.{held_at-here}
 use Rattle.round_core.proofs.EntryLaws.{out_at-all, done_at-all, all-with_done, up_to-unless_risen}

@@ -1,7 +1,7 @@
 -- What posts make of nodes, worked out ahead of the turn in which they are posted.
 use Rattle.std.specs.Prelude.{◌≡◌, ℕ, ◌+◌, true, false, Option, Some, List, [], ◌∷◌, MatchOption}
 use Rattle.call_context.specs.declared.node.Node.{Node}
-use Rattle.chip_law.specs.Analysis.{Analysis}
+use Rattle.chip_analysis.specs.Analysis.{Analysis}
 use Rattle.round_core.specs.declared.ahead.Looked.{Looked}
 use Rattle.round_core.specs.declared.met.MetNode.{MetNode}
 use Rattle.round_core.specs.declared.ticket.Done.{Done}

@@ -1,6 +1,6 @@
 -- What a claim answers.
 use Rattle.std.specs.Prelude.{◌≡◌, ℕ, ◌≢◌, []}
-use Rattle.chip_law.specs.Analysis.{Analysis}
+use Rattle.chip_analysis.specs.Analysis.{Analysis}
 use Rattle.round_core.specs.declared.event.Event.TheVariants.{Claim}
 use Rattle.round_core.specs.declared.ticket.Claimed.{Claimed}
 use Rattle.round_core.specs.declared.ticket.Claimed.TheVariants.{Ticket, Idle, Finished}

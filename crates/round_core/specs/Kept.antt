@@ -4,7 +4,7 @@ use Rattle.call_context.specs.declared.node.Unit.{Unit as WorkUnit}
 use Rattle.call_context.specs.declared.node.Unit.TheVariants.{One, Back}
 use Rattle.call_context.specs.declared.node.Node.{Node}
 use Rattle.call_context.specs.Nodes.{frame_of}
-use Rattle.chip_law.specs.declared.chip.Work.{Work}
+use Rattle.chip_analysis.specs.declared.chip.Work.{Work}
 use Rattle.round_core.specs.declared.event.Event.{Event}
 use Rattle.round_core.specs.Machine.{BookState, Done, Out, out_at, waits_for}
 

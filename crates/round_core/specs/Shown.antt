@@ -9,7 +9,7 @@ use Rattle.call_context.specs.declared.node.Unit.{Unit as WorkUnit}
 use Rattle.round_core.specs.declared.place.Place.{Place}
 use Rattle.round_core.specs.contracts.place.PlaceOrd.TheImpl as place_impl
 use Rattle.round_core.specs.declared.parts.Parts.{Parts}
-use Rattle.chip_law.specs.Analysis.{Analysis}
+use Rattle.chip_analysis.specs.Analysis.{Analysis}
 use Rattle.round_core.specs.declared.event.Event.{Event}
 use Rattle.round_core.specs.Machine.{BookState, Held, Out, held_at, out_at, place_of, waits_for, IsClaimable, IsLegalJournal, replay}
 use Rattle.round_core.specs.Claims.{placed, claimable_at}

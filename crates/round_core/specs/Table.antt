@@ -3,8 +3,8 @@ use Rattle.std.specs.Prelude.{◌≡◌, true, Option, Some, List}
 use Rattle.std.specs.Option.{option_map}
 use Rattle.call_context.specs.declared.node.Node.{Node}
 use Rattle.call_context.specs.declared.node.Unit.{Unit as WorkUnit}
-use Rattle.chip_law.specs.Analysis.{Analysis, AreFormed}
-use Rattle.chip_law.specs.declared.chip.Work.{Work}
+use Rattle.chip_analysis.specs.Analysis.{Analysis, AreFormed}
+use Rattle.chip_analysis.specs.declared.chip.Work.{Work}
 use Rattle.round_core.specs.Machine.{Held, held_at, inputs_of}
 
 -- a posted state is within what its node holds

@@ -1,6 +1,6 @@
 -- The units of a book that were done as rows of a table: the work is the value, and the versions are the mark.
 use Rattle.call_context.specs.declared.node.Unit.{Unit as WorkUnit}
-use Rattle.chip_law.specs.declared.chip.Work.{Work}
+use Rattle.chip_analysis.specs.declared.chip.Work.{Work}
 use Rattle.round_core.specs.declared.versions.Versions.{Versions}
 use Rattle.round_core.specs.Machine.{Done}
 

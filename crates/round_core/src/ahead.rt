@@ -9,7 +9,7 @@ use crate::met::{Met, MetNode};
 use crate::raise::risen_row;
 use crate::ticket::Done;
 use call_context::Node;
-use chip_law::Chip;
+use chip_analysis::Chip;
 use no_memory::Memory;
 use std::alloc::Global;
 use std::collections::VecDeque;

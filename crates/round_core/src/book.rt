@@ -9,7 +9,7 @@ use crate::event::Event;
 use crate::parts::Parts;
 use crate::spent::Spent;
 use call_context::{Node, Unit};
-use chip_law::{Chip, Work};
+use chip_analysis::{Chip, Work};
 use no_memory::Memory;
 use std::alloc::Global;
 use std::marker::Model;

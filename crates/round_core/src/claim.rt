@@ -15,7 +15,7 @@ use crate::place::Place;
 use crate::ticket::{Claimed, Ticket};
 use crate::versions::Versions;
 use call_context::{Node, Unit};
-use chip_law::Chip;
+use chip_analysis::Chip;
 use no_memory::Memory;
 use std::alloc::Global;
 
@@ -102,6 +102,8 @@ impl<C: Chip> Book<C> {
             });
         };
         let alloc = self.parts.nodes.allocator();
+        // Who works alone makes the posts before anyone else looks at the book: there is nothing to look ahead of.
+        let meets = meets && !self.parts.turns.is_empty();
         let met = met_at(alloc, chip, &self.parts, &unit, place, meets)?;
         let ticket = ticket_of(alloc, chip, &self.parts.nodes, seat, &unit, place, met)?;
         self.parts.take_out(seat, &unit, place)?;
@@ -117,8 +119,8 @@ impl<C: Chip> Book<C> {
         self.claim_with(chip, seat, false)
     }
 
-    /// The same, and the ticket takes along what those nodes hold that the unit's last work posted to, so that its worker can
-    /// look ahead.
+    /// The same, and where other units are out the ticket takes along what those nodes hold that the unit's last work posted to,
+    /// so that its worker can look ahead.
     pub fn claim_to_look_ahead(&mut self, chip: &C, seat: u32) -> Result<Claimed<C>, Memory>
         requires { C.base chip.now ≡ self.old.base }
         ensures answer { IfOk result (λ claimed. AnswersClaim (C.analysis self.old.base) self.old self.new seat claimed) }

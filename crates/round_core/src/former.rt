@@ -4,7 +4,7 @@ ghost use Rattle.std.specs.Prelude.{◌≡◌, ◌<◌, ◌+◌, List, false, ma
 ghost use Rattle.std.specs.List.{AllByRecursion, list_any};
 ghost use Rattle.std.specs.Map.{keys_of, values_of};
 ghost use Rattle.call_context.specs.declared.node.Unit.{Unit as WorkUnit};
-ghost use Rattle.chip_law.specs.declared.chip.Work.{Work as AWork};
+ghost use Rattle.chip_analysis.specs.declared.chip.Work.{Work as AWork};
 ghost use Rattle.round_core.specs.declared.versions.Versions.{Versions as SomeVersions};
 ghost use Rattle.round_core.specs.Former.{is_no_unit, marked, live_among};
 ghost use Rattle.round_core.specs.Kept.{is_live};
@@ -15,7 +15,7 @@ ghost use Rattle.round_core.specs.Works.{done_of, work_of};
 
 use crate::versions::Versions;
 use call_context::{Frame, Node, Unit, equal_nodes_are_one};
-use chip_law::Work;
+use chip_analysis::Work;
 use indexmap::IndexMap;
 
 /// Whether a work waits for a frame.

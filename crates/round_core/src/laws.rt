@@ -7,9 +7,9 @@ ghost use Rattle.std.specs.List.{AllByRecursion, IsDistinct};
 ghost use Rattle.std.specs.Map.{keys_of};
 ghost use Rattle.call_context.specs.declared.node.Node.{Node as ANode};
 ghost use Rattle.call_context.specs.declared.node.Unit.{Unit as WorkUnit};
-ghost use Rattle.chip_law.specs.Analysis.{KeepsForm, TopIsGreatest, IsOrdered};
-ghost use Rattle.chip_law.specs.Table.{IsUnitOver, IsClosedTable, IsFormedTable};
-ghost use Rattle.chip_law.specs.declared.chip.Work.{Work};
+ghost use Rattle.chip_analysis.specs.Analysis.{KeepsForm, TopIsGreatest, IsOrdered};
+ghost use Rattle.chip_analysis.specs.Table.{IsUnitOver, IsClosedTable, IsFormedTable};
+ghost use Rattle.chip_analysis.specs.declared.chip.Work.{Work};
 ghost use Rattle.round_core.specs.declared.event.Event.{Event as AnEvent};
 ghost use Rattle.round_core.specs.declared.event.Event.TheVariants.{Claim, Post, GiveBack};
 ghost use Rattle.round_core.specs.Kept.{live_pairs, live_works};
@@ -18,7 +18,7 @@ ghost use Rattle.round_core.specs.Same.{same_unit};
 ghost use Rattle.round_core.specs.Table.{table_of, IsUnder, IsWorkOf, IsOfUnit};
 ghost use Rattle.round_core.specs.Counts.{anyone, outs, claims_of, posts_of, give_backs_of, claims_by, posts_by, give_backs_by, AreApart, AreOutOnce, NoneOfSeat, unit_of};
 
-use chip_law::Chip;
+use chip_analysis::Chip;
 
 /// No node has two entries. Once posted a node stays in its place, its rises never fall, and its state is the same until
 /// it rises.

@@ -5,7 +5,7 @@ ghost use Rattle.round_core.specs.Ahead.{IsMet};
 
 use crate::nodes::Nodes;
 use call_context::Node;
-use chip_law::Chip;
+use chip_analysis::Chip;
 use no_memory::Memory;
 use std::alloc::Global;
 use std::marker::Model;
@@ -49,6 +49,11 @@ impl<A> Met<A> {
             then: Snapshot::of(nodes),
             rows: Vec::new(alloc),
         }
+    }
+
+    /// Whether there are none.
+    pub fn is_empty(&self) -> bool {
+        self.rows.is_empty()
     }
 
     /// What a node held.

@@ -27,7 +27,7 @@ use crate::turns::Turns;
 use crate::versions::Versions;
 use crate::works::Works;
 use call_context::{Frame, Node, Unit};
-use chip_law::Work;
+use chip_analysis::Work;
 use no_memory::Memory;
 use std::alloc::Global;
 

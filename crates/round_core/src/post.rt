@@ -15,7 +15,7 @@ use crate::parts::Parts;
 use crate::raise::all_raised;
 use crate::raised::Raised;
 use crate::ticket::Done;
-use chip_law::Chip;
+use chip_analysis::Chip;
 use no_memory::Memory;
 
 /// All that may fail of a post, for want of memory alone. It changes nothing that the parts stand for, and answers

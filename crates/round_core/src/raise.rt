@@ -10,7 +10,7 @@ use crate::ahead::{Ahead, Looked};
 use crate::nodes::Nodes;
 use crate::raised::{Raised, Risen, index_of};
 use call_context::Node;
-use chip_law::Chip;
+use chip_analysis::Chip;
 use no_memory::Memory;
 use std::alloc::Global;
 

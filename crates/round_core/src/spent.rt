@@ -1,7 +1,7 @@
 //! What posts have replaced.
 
 use crate::met::MetNode;
-use chip_law::Work;
+use chip_analysis::Work;
 use std::alloc::Global;
 
 /// The copies of states that a ticket had.

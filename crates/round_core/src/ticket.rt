@@ -8,7 +8,7 @@ use crate::place::Place;
 use crate::spent::Rest;
 use crate::versions::Versions;
 use call_context::Unit;
-use chip_law::{Chip, Work};
+use chip_analysis::{Chip, Work};
 use std::marker::Model;
 
 /// A unit that is out, with copies of its input states.
@@ -79,6 +79,11 @@ impl<C: Chip> Ticket<C> {
         ensures { result.now ≡ self.now.nodes }
     {
         &self.met
+    }
+
+    /// Whether the ticket took along what nodes hold, so that its worker can look ahead.
+    pub fn can_look_ahead(&self) -> bool {
+        !self.met.is_empty()
     }
 
     /// Where the unit's nodes stood when it was claimed.

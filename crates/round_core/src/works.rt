@@ -12,7 +12,7 @@ use crate::place::Place;
 use crate::table::Table;
 use crate::versions::Versions;
 use call_context::{Frame, Node, Unit, equal_nodes_are_one};
-use chip_law::Work;
+use chip_analysis::Work;
 use no_memory::Memory;
 use std::alloc::Global;
 use std::marker::Model;

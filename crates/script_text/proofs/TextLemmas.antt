@@ -4,8 +4,7 @@ use Rattle.std.specs.Prelude.{◌==◌}
 use Rattle.std.proofs.lemmas.List.{append-nil, map-append, length-map, take-append-drop}
 use Rattle.std.proofs.Math.Seq.{take-suc}
 use Rattle.std.proofs.lemmas.List.Sums.{sum_by-append}
-use Rattle.ihex_read.specs.Lines.{without_return, last_line, lines_behind, lines_of}
-use Rattle.ihex_read.specs.Reading.{feeds_of}
+use Rattle.text_lines.specs.Lines.{feeds_of, without_return, last_line, lines_behind, lines_of}
 use Rattle.script_text.specs.declared.fault.ScriptError.{ScriptError}
 use Rattle.script_text.specs.declared.fault.ScriptError.TheVariants.{Syntax, Memory}
 use Rattle.script_text.specs.Script.{is_number, number_of, numbers_behind, numbers_of, script_of}

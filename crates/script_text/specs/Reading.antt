@@ -1,7 +1,6 @@
 -- A reader of a script in pieces, and what a text tells before it has ended.
 use Rattle.std.specs.Prelude.{◌≡◌, ◌++◌, ◌∷◌, [], ◌≤◌, ℕ, List, map, length, Option, Ok, Err, ◌+◌}
-use Rattle.ihex_read.specs.Lines.{without_return, lines_behind, lines_of}
-use Rattle.ihex_read.specs.Reading.{feeds_of}
+use Rattle.text_lines.specs.Lines.{feeds_of, without_return, lines_behind, lines_of}
 use Rattle.script_text.specs.declared.fault.ScriptError.{ScriptError}
 use Rattle.script_text.specs.declared.fault.ScriptError.TheVariants.{Syntax, Memory}
 use Rattle.script_text.specs.Script.{numbers_behind, numbers_of, script_of}

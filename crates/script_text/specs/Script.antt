@@ -2,7 +2,7 @@
 -- are. A line is blank, or it is a number of 1 to 4 hexadecimal digits in either case; each other one is refused.
 use Rattle.std.specs.Prelude.{ℕ, suc, ◌+◌, ◌-◌, ◌*◌, nat_lt, nat_le, ◌&&◌, ◌||◌, if◌then◌else◌, Bool, List, [], ◌∷◌, ◌++◌, length, Result, Ok, Err}
 use Rattle.std.specs.List.{list_all}
-use Rattle.ihex_read.specs.Lines.{lines_of}
+use Rattle.text_lines.specs.Lines.{lines_of}
 
 -- 0 to 9, A to F, a to f
 abbrev pub is_digit : ℕ → Bool

@@ -7,10 +7,10 @@ ghost use Rattle.script_text.specs.Reading.{IsRefusedWithin, TellsFront, TellsWh
 
 use crate::fault::ScriptError;
 use crate::line::push_line;
-use ihex_read::without_return;
 use std::alloc::Global;
 use std::marker::Model;
 use std::snapshot::Snapshot;
+use text_lines::without_return;
 
 /// The longest script that a reader takes, in bytes.
 pub const MOST_BYTES: usize = 268_435_456;

@@ -1,7 +1,7 @@
 -- Texts of a chip's states, both ways.
 use Rattle.std.specs.Prelude.{◌≡◌, ◌↔◌, ℕ, true, Option, None, Some, List}
 use Rattle.call_context.specs.declared.node.Node.{Node}
-use Rattle.chip_law.specs.Analysis.{Analysis}
+use Rattle.chip_analysis.specs.Analysis.{Analysis}
 use Rattle.text_fields.specs.Lines.{IsOneLine}
 use Rattle.node_fields.specs.Nodes.{IsNodeText}
 use Rattle.node_fields.specs.declared.outside.Outside.{Outside}

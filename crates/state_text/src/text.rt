@@ -4,7 +4,8 @@ ghost use Rattle.std.specs.Prelude.{◌≡◌, ◌≤◌, ◌++◌, IfOk, OnOk};
 ghost use Rattle.state_text.specs.Texts.{AreTexts, StateTexts};
 
 use call_context::Node;
-use chip_law::{Chip, LawfulChip};
+use chip_analysis::Chip;
+use chip_law::LawfulChip;
 use no_memory::Memory;
 use node_fields::Outside;
 use std::alloc::Global;

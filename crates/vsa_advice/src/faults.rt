@@ -4,7 +4,7 @@ use crate::inputs::other_input;
 use crate::source::NotedSource;
 use crate::words::has_word;
 use std::{io, str};
-use vsa_io::Source;
+use streams::Source;
 
 /// What is said of an input: of a line of it, by the line's number, or of the whole.
 #[derive(Clone, Copy)]

@@ -11,7 +11,7 @@ use run_question::{Asked, mcs51_asks, msp430_asks};
 use script_text::Reader as ScriptReader;
 use std::alloc::Global;
 use std::{io, str};
-use vsa_io::Source;
+use streams::Source;
 use vsa_words::{Reading, Target, reading_of};
 
 /// The questions of a step of the MSP430.

@@ -2,7 +2,7 @@
 
 use arrayvec::ArrayVec;
 use report_watch::Watch;
-use vsa_io::{Failed, Sink};
+use streams::{Failed, Sink};
 
 /// How many bytes are remembered: a line that tells a refusal has fewer, and so have the last two lines of a trace.
 const ROOM: usize = 32;

@@ -2,9 +2,9 @@
 
 use crate::words::has_word;
 use arrayvec::ArrayVec;
-use ihex_read::word_of_digits;
+use hex_digits::word_in_either_case;
 use std::alloc::Global;
-use vsa_io::{Failed, Source};
+use streams::{Failed, Source};
 
 /// How many bytes of a text are remembered.
 const ROOM: usize = 64;
@@ -135,7 +135,7 @@ impl<S: Source + Drop> NotedSource<S> {
             return None;
         }
         match place.head() {
-            [b':', _, _, digits @ .., _, _] => word_of_digits(digits),
+            [b':', _, _, digits @ .., _, _] => word_in_either_case(digits),
             _ => None,
         }
     }

@@ -2,10 +2,10 @@
 
 use std::alloc::Global;
 use std::io;
+use streams::{Sink, Source};
 use vsa_advice::{
     Fault, Noted, NotedSource, image_fault, print_need, print_slip, print_warnings, text_fault,
 };
-use vsa_io::{Sink, Source};
 use vsa_top::Status;
 
 /// The sentence for a status, if there is one. The report, the disassembly and the trace of a run speak for themselves.

@@ -1,14 +1,14 @@
 //! The standard output, which remembers whether its reader went away.
 
 ghost use Rattle.std.specs.Prelude.{◌≡◌, ◌≤◌, ◌<◌, length, None, IfOk, OnOk, OnErr};
-ghost use Rattle.vsa_io.specs.Count.{one_more};
-ghost use Rattle.vsa_io.specs.Stream.{HasRisen};
+ghost use Rattle.streams.specs.Count.{one_more};
+ghost use Rattle.streams.specs.Stream.{HasRisen};
 
 use crate::progress::Progress;
 use std::io;
 use std::io::{Print, Printer, Write};
 use std::rt::{Clock, Files};
-use vsa_io::{Failed, Sink};
+use streams::{Failed, Sink};
 
 /// A sink over the standard output.
 #[derive(Drop)]

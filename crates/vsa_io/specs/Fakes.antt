@@ -2,7 +2,7 @@
 -- from 1, and a call whose number is one of a list fails.
 use Rattle.std.specs.Prelude.{ℕ, Bool, nat_eq, nat_lt, nat_le, ◌&&◌, List, length, min}
 use Rattle.std.specs.List.{list_any}
-use Rattle.vsa_io.specs.Count.{one_more}
+use Rattle.streams.specs.Count.{one_more}
 
 -- a source that never fails: the bytes that are left, and how many a call gives at most
 pub record CleanFeed : Type 0 where

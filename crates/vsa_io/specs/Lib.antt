@@ -1,5 +1,1 @@
-pub mod Count
 pub mod Fakes
-pub mod Pieces
-pub mod Stream
-pub mod Untold

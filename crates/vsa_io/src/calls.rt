@@ -1,10 +1,10 @@
 //! The calls of a stream in memory, of which some fail.
 
 ghost use Rattle.std.specs.Prelude.{◌≡◌, ◌≤◌, OnOk, OnErr, is_err};
-ghost use Rattle.vsa_io.specs.Count.{one_more};
+ghost use Rattle.streams.specs.Count.{one_more};
 ghost use Rattle.vsa_io.specs.Fakes.{is_failing};
 
-use crate::refusal::Failed;
+use streams::Failed;
 
 /// How many calls there were, the numbers of those that fail, and how many have failed.
 #[derive(Drop)]

@@ -1,16 +1,15 @@
 //! Sinks in memory, for tests and for callers that know how much they write.
 
 ghost use Rattle.std.specs.Prelude.{◌≡◌, ◌≤◌, ◌<◌, ◌-◌, ◌++◌, ◌||◌, [], length, take, Some, IfOk, OnOk, OnErr, IsOkAnd, is_err, vec_capacity};
-ghost use Rattle.vsa_io.specs.Count.{one_more};
+ghost use Rattle.streams.specs.Count.{one_more};
 ghost use Rattle.vsa_io.specs.Fakes.{count_of, is_failing, is_full_for};
-ghost use Rattle.vsa_io.specs.Stream.{HasRisen, appended};
+ghost use Rattle.streams.specs.Stream.{HasRisen, appended};
 
 use crate::calls::Calls;
-use crate::refusal::Failed;
-use crate::stream::Sink;
 use no_memory::Memory;
 use std::alloc::Global;
 use std::marker::Model;
+use streams::{Failed, Sink};
 
 /// Appends the first of the bytes, at most a piece and at most what there is room for, and answers how many they
 /// are. The memory is there already.

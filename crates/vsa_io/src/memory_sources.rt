@@ -1,14 +1,13 @@
 //! Sources in memory, for tests and for callers that know what a stream is to do.
 
 ghost use Rattle.std.specs.Prelude.{◌≡◌, ◌≤◌, ◌<◌, ◌++◌, length, take, drop, Some, IfOk, OnOk, OnErr, IsOk, is_err};
-ghost use Rattle.vsa_io.specs.Count.{one_more};
+ghost use Rattle.streams.specs.Count.{one_more};
 ghost use Rattle.vsa_io.specs.Fakes.{count_of, is_failing};
-ghost use Rattle.vsa_io.specs.Stream.{HasRisen, Takes, IsAtEnd};
+ghost use Rattle.streams.specs.Stream.{HasRisen, Takes, IsAtEnd};
 
 use crate::calls::Calls;
-use crate::refusal::Failed;
-use crate::stream::Source;
 use std::marker::Model;
+use streams::{Failed, Source};
 
 /// Copies the first of the bytes that are left into the front of the buffer, at most a piece, and answers how
 /// many they are.

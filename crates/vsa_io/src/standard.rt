@@ -1,14 +1,13 @@
 //! The standard input and output as streams. They tell no bytes.
 
 ghost use Rattle.std.specs.Prelude.{◌≡◌, ◌≤◌, ◌<◌, length, None, IfOk, OnOk, OnErr};
-ghost use Rattle.vsa_io.specs.Count.{one_more};
-ghost use Rattle.vsa_io.specs.Stream.{HasRisen};
+ghost use Rattle.streams.specs.Count.{one_more};
+ghost use Rattle.streams.specs.Stream.{HasRisen};
 
-use crate::refusal::Failed;
-use crate::stream::{Sink, Source};
 use std::io;
 use std::io::{Input, Print, Printer, Read, Write};
 use std::marker::Model;
+use streams::{Failed, Sink, Source};
 
 /// The standard input. A clause sees it as the number of its faults.
 #[derive(Drop)]

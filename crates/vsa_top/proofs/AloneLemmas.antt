@@ -1,11 +1,11 @@
 -- The reply that tells one worker's analysis is one alone.
 use Rattle.std.proofs.Common.{◌≡◌, ◌++◌, Bool, true, false, ap₂, ℕ, Option, Some, List, refl, sym, ap, ◌∙◌, subst, inl, inr}
-use Rattle.ihex_read.specs.declared.tail.Tail.TheVariants.{Blank}
+use Rattle.image.specs.declared.tail.Tail.TheVariants.{Blank}
 use Rattle.round_core.specs.declared.event.Event.{Event}
 use Rattle.analysis_limits.specs.declared.limits.Limits.{Limits}
 use Rattle.call_context.specs.declared.node.Node.{Node}
 use Rattle.cert_text.specs.Writing.{IsCert}
-use Rattle.chip_law.specs.Analysis.{Analysis}
+use Rattle.chip_analysis.specs.Analysis.{Analysis}
 use Rattle.mcs51_flow.specs.Texts.{mcs51_texts}
 use Rattle.mcs51_flow.specs.declared.setting.Setting.{Setting as Mcs51Setting}
 use Rattle.msp430_flow.specs.Texts.{msp430_texts}
@@ -26,12 +26,11 @@ use Rattle.vsa_words.specs.declared.reading.Target.{Target}
 use Rattle.vsa_words.specs.declared.reading.Target.TheVariants.{Msp430, Mcs51}
 use Rattle.vsa_top.specs.Alone.{IsOneReply, TellsAnalysis, WorksAlone}
 use Rattle.vsa_top.specs.Alone.WorksAlone.{of_input, of_made}
-use Rattle.vsa_top.specs.Answer.{Answers, IsAnalysed, IsAnalysedOn, IsFollowed, IsImageReply, IsReply, IsReported, IsReportedOn, TellsNoFault, status_of_analysis}
+use Rattle.vsa_top.specs.Answer.{Answers, IsAnalysed, IsAnalysedOn, IsFollowed, IsImageReply, IsReply, IsReported, IsReportedOn, TellsNoFault, status_of_analysis, summary_on}
 use Rattle.vsa_top.specs.Answer.IsReply.{of_image, of_bad, of_long}
 use Rattle.vsa_top.specs.Input.{InputGives, input_of}
-use Rattle.vsa_top.specs.Summary.{summary}
 use Rattle.vsa_top.specs.Settings.{device_of, mcs51_setting, msp430_setting}
-use Rattle.vsa_words.specs.Words.{rules_of, usual_task, tail_of}
+use Rattle.vsa_words.specs.Words.{rules_of, usual_limits, usual_target, usual_task, tail_of}
 use Rattle.vsa_top.proofs.HeadlineLemmas.{HaveOneImage, gives_reply}
 
 -- one worker's journals of an analysis are one
@@ -131,7 +130,7 @@ image_same msp430 mcs51 certs codes reading image second behind (of_made chip nu
     let (whole_so, is_so, sum_so) = this in
     let (status_is, report_is, journal_is) = on_same msp430 mcs51 task.target task.limits task.workers image refl
     other whole events answered whole_so journal is is_so in
-    (status_is, sum ∙ ap (summary chip number) report_is ∙ sym sum_so, journal_is)
+    (status_is, sum ∙ ap (summary_on (usual_target chip) usual_limits image chip number) journal_is ∙ sym sum_so, journal_is)
 
 blank : (reading : Reading) → WorksAlone reading → tail_of reading ≡ Blank
 blank reading (of_input task alone) = refl

@@ -10,15 +10,15 @@ use Rattle.assert_check.specs.declared.assertion.Assertion.{Assertion}
 use Rattle.assert_check.specs.declared.lines.AssertError.{AssertError}
 use Rattle.assert_check.specs.declared.lines.AssertError.TheVariants as assert_error
 use Rattle.call_context.specs.declared.node.Unit.{Unit as WorkUnit}
-use Rattle.chip_law.specs.Analysis.{Analysis}
+use Rattle.chip_analysis.specs.Analysis.{Analysis}
 use Rattle.item_lines.specs.Line.{item_line_of}
-use Rattle.chip_law.specs.declared.chip.Work.{Work}
+use Rattle.chip_analysis.specs.declared.chip.Work.{Work}
 use Rattle.chip_numbers.specs.declared.space.Space.{Space}
 use Rattle.report_text.specs.Report.{IsReportOf, are_closed, last_works, report_of}
 use Rattle.round_core.specs.Kept.{live_pairs}
 use Rattle.round_core.specs.Machine.{replay, IsClosed}
 use Rattle.round_core.specs.declared.event.Event.{Event}
-use Rattle.vsa_io.specs.Stream.{IsAtEnd}
+use Rattle.streams.specs.Stream.{IsAtEnd}
 use Rattle.vsa_top.specs.Answer.{IsAnalysis, IsDecided, IsDecidedOn, TellsNoFault}
 use Rattle.vsa_top.specs.Answer.IsDecided.{decided, reported}
 use Rattle.vsa_top.specs.Asserted.{LacksAssertions, broken_in, broken_text, refusal_of, status_of_broken, unread_of}

@@ -6,9 +6,9 @@ use Rattle.std.proofs.lemmas.Bool.{cases_order}
 use Rattle.std.proofs.lemmas.List.{length-append, take-append-le}
 use Rattle.std.proofs.lemmas.Option.{same_Some}
 use Rattle.image.specs.declared.rule_set.Rules.{Rules}
-use Rattle.ihex_read.specs.declared.tail.Tail.TheVariants.{Second}
+use Rattle.image.specs.declared.tail.Tail.TheVariants.{Second}
 use Rattle.ihex_read.specs.ImageText.{Denotes}
-use Rattle.ihex_read.specs.Lines as texts
+use Rattle.text_lines.specs.Lines as texts
 use Rattle.ihex_read.specs.Reading.{HasEnded}
 use Rattle.round_core.specs.declared.event.Event.{Event}
 use Rattle.vsa_top.specs.Answer.{Answers, IsCheckedOn, IsReply, IsVerdictOn}

@@ -8,17 +8,17 @@ use Rattle.image_gen.specs.Made.{made_image}
 use Rattle.made_programs.specs.Chips.{rules_of as made_rules}
 use Rattle.ihex_read.specs.declared.fault.HexFault.{HexFault}
 use Rattle.image.specs.declared.rule_set.Rules.{Rules}
-use Rattle.ihex_read.specs.declared.tail.Tail.{Tail}
-use Rattle.ihex_read.specs.declared.tail.Tail.TheVariants.{Blank, Second}
+use Rattle.image.specs.declared.tail.Tail.{Tail}
+use Rattle.image.specs.declared.tail.Tail.TheVariants.{Blank, Second}
 use Rattle.ihex_read.specs.ImageText.{Denotes, FirstFault}
 use Rattle.image.specs.Kept.{IsRamRange, IsReadUnder}
-use Rattle.ihex_read.specs.Lines as texts
+use Rattle.text_lines.specs.Lines as texts
 use Rattle.ihex_read.specs.Reading.{HasEnded}
-use Rattle.vsa_io.specs.Stream.{appended}
+use Rattle.streams.specs.Stream.{appended}
 use Rattle.round_core.specs.Machine.{replay, IsLegalJournal, IsFinished}
 use Rattle.round_core.specs.declared.event.Event.{Event}
 use Rattle.analysis_limits.specs.declared.limits.Limits.{Limits}
-use Rattle.chip_law.specs.Analysis.{Analysis}
+use Rattle.chip_analysis.specs.Analysis.{Analysis}
 use Rattle.chip_law.specs.Machine.{Machine}
 use Rattle.mcs51_flow.specs.Standing.{instr_text as mcs51_text}
 use Rattle.mcs51_flow.specs.Chip.{mcs51_analysis, IsSetting as IsMcs51Program}

@@ -4,15 +4,15 @@ use Rattle.std.specs.Prelude.{IfSome, IfErr, IsErrAnd, Result, Ok, Err, min}
 use Rattle.std.proofs.lemmas.List.{drop-take, take-append-drop, take-append-le, take_all, length-take, append-nil}
 use Rattle.std.proofs.Math.Seq.{take-append-add}
 use Rattle.image.specs.declared.rule_set.Rules.{Rules}
-use Rattle.ihex_read.specs.declared.tail.Tail.{Tail}
-use Rattle.ihex_read.specs.declared.tail.Tail.TheVariants.{Blank, Second}
+use Rattle.image.specs.declared.tail.Tail.{Tail}
+use Rattle.image.specs.declared.tail.Tail.TheVariants.{Blank, Second}
 use Rattle.ihex_read.specs.declared.fault.HexFault.{HexFault}
 use Rattle.ihex_read.specs.declared.fault.HexError.{HexError}
 use Rattle.ihex_read.specs.declared.fault.HexError.TheVariants.{Bad, Memory}
 use Rattle.ihex_read.specs.ImageText.{Denotes, FirstFault}
-use Rattle.ihex_read.specs.Lines.{lines_of}
+use Rattle.text_lines.specs.Lines.{lines_of}
 use Rattle.ihex_read.specs.Reading.{Reading, FaultsWithin, HasEnded, TellsFront, TellsWhole}
-use Rattle.vsa_io.specs.Stream.{Takes, IsAtEnd}
+use Rattle.streams.specs.Stream.{Takes, IsAtEnd}
 use Rattle.vsa_top.specs.Input.{text_limit, front_of, Gives, InputGives, IsTooLong, LacksImage, begun_with, input_error_of}
 use Rattle.vsa_top.specs.declared.input.InputError.{InputError}
 

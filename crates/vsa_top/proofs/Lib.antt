@@ -6,5 +6,4 @@ pub mod InputLemmas
 pub mod OwnLemmas
 pub mod ReplyLemmas
 pub mod ScriptLemmas
-pub mod SummaryLemmas
 pub mod WordsLemmas

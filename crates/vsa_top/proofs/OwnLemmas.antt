@@ -5,10 +5,10 @@ use Rattle.std.proofs.lemmas.List.{append_cancel_left}
 use Rattle.analysis_limits.specs.declared.limits.Limits.{Limits}
 use Rattle.cert_text.specs.Writing.{IsCert}
 use Rattle.cert_verdict.specs.Verdict.{IsVerdict}
-use Rattle.chip_law.specs.Analysis.{Analysis}
-use Rattle.ihex_read.specs.declared.tail.Tail.TheVariants.{Blank, Second}
+use Rattle.chip_analysis.specs.Analysis.{Analysis}
+use Rattle.image.specs.declared.tail.Tail.TheVariants.{Blank, Second}
 use Rattle.ihex_read.specs.ImageText.{Denotes}
-use Rattle.ihex_read.specs.Lines as texts
+use Rattle.text_lines.specs.Lines as texts
 use Rattle.image.specs.Kept.{IsRamRange}
 use Rattle.mcs51_flow.specs.Chip.{mcs51_analysis, IsSetting as IsMcs51Program}
 use Rattle.mcs51_flow.specs.Standing.{instr_text as mcs51_text}
@@ -24,7 +24,7 @@ use Rattle.round_core.specs.Kept.{nodes_of}
 use Rattle.round_core.specs.Machine.{replay, IsClosed, IsFinished, IsLegalJournal}
 use Rattle.round_core.specs.declared.event.Event.{Event}
 use Rattle.state_text.specs.Texts.{StateTexts}
-use Rattle.vsa_io.specs.Stream.{appended}
+use Rattle.streams.specs.Stream.{appended}
 use Rattle.vsa_top.specs.Answer.{Answers, IsChecked, IsCheckedOn, IsReply, IsReported, IsReportedOn, IsVerdictOn, status_of_verdict}
 use Rattle.vsa_top.specs.Answer.IsChecked.{judged, lengthy}
 use Rattle.vsa_top.specs.Answer.IsReply.{of_image, of_bad, of_long}

@@ -1,28 +1,23 @@
 -- The reply to a program that is analysed, put together from the book and its report.
-use Rattle.std.proofs.Common.{◌≡◌, ◌<◌, ℕ, Bool, true, false, Option, sym, subst, List, [], ◌∷◌, ap, arith, ◌∙◌, All}
+use Rattle.std.proofs.Common.{◌≡◌, ◌<◌, ℕ, Bool, true, Option, None, List, [], ◌∷◌, ap, arith, ◌∙◌, All}
 use Rattle.std.proofs.lemmas.List.Elements.{All-cons, All-nil}
 use Rattle.std.specs.Prelude.{◌&&◌, IfOk, Result, Ok, Err}
-use Rattle.chip_law.specs.Analysis.{Analysis}
+use Rattle.chip_analysis.specs.Analysis.{Analysis}
 use Rattle.closing_law.specs.Bounded.{AreBounded}
 use Rattle.round_core.specs.declared.event.Event.{Event}
 use Rattle.round_core.specs.declared.event.Event.TheVariants.{Claim, Post, GiveBack}
 use Rattle.round_core.specs.Counts.{seat_of}
 use Rattle.round_core.specs.Machine.{replay, IsFinished, IsLegalJournal}
 use Rattle.worker_rounds.specs.Turns.{AreTurns}
-use Rattle.report_text.specs.Report.{IsReportOf, are_closed, last_works, report_of}
+use Rattle.image.specs.declared.chip_name.ChipName.{ChipName}
+use Rattle.report_text.specs.Deepest.{deepest_of}
+use Rattle.report_text.specs.Report.{IsReportOf, are_closed, counts_of, items_of, last_works, report_of, reported_lines}
+use Rattle.report_text.specs.declared.deepest.Deepest.{Deepest}
+use Rattle.report_text.specs.declared.lines.Counts.{Counts}
 use Rattle.vsa_top.specs.declared.outcome.Status.{Status}
-use Rattle.analysis_limits.specs.declared.limits.Limits.{Limits}
-use Rattle.mcs51_flow.specs.Chip.{mcs51_analysis}
-use Rattle.mcs51_flow.specs.Standing.{instr_text as mcs51_text}
-use Rattle.mcs51_flow.specs.Texts.{mcs51_texts}
-use Rattle.msp430_flow.specs.Chip.{msp430_analysis}
-use Rattle.msp430_flow.specs.Standing.{instr_text as msp430_text}
-use Rattle.msp430_flow.specs.Texts.{msp430_texts}
 use Rattle.state_text.specs.Texts.{StateTexts}
-use Rattle.vsa_top.specs.Answer.{IsAnalysed, IsAnalysedOn, IsAnalysis, IsFollowed, IsReported, IsReportedOn, status_of_analysis}
-use Rattle.vsa_top.specs.Settings.{device_of, mcs51_setting, msp430_setting}
-use Rattle.vsa_words.specs.declared.reading.Target.{Target}
-use Rattle.vsa_words.specs.declared.reading.Target.TheVariants.{Msp430, Mcs51}
+use Rattle.vsa_top.specs.Answer.{IsAnalysed, IsAnalysis, IsFollowed, IsReported, IsSummary, status_of_analysis}
+use Rattle.vsa_top.specs.Summary.{summary}
 
 -- the events of one worker alone are of seat 0
 turns_below : (journal : List Event) → AreTurns journal → All (λ event. seat_of event < 1) journal
@@ -66,19 +61,23 @@ reported_by text_of m texts workers cert journal report text is_closed replied i
   followed = followed;
 }
 
--- where no certificate is asked for the report is all
-alone_by : {A : Type 0} (text_of : ℕ → List ℕ → List ℕ) (m : Analysis A) (texts : StateTexts A) (workers : ℕ) (replied : Status) (text : List ℕ)
-    (journal : List Event) → IsReported text_of m texts workers false replied text journal
-    → IsAnalysed text_of m workers replied text journal
-alone_by text_of m texts workers replied text journal is =
-    subst (λ t. IsAnalysed text_of m workers replied t journal) (sym is.followed) is.analysed
-
-pub report_alone : (target : Target) (limits : Limits) (workers : ℕ) (image : List (Option ℕ)) (replied : Status) (text : List ℕ) (journal : List Event)
-    → IsReportedOn target limits workers false image replied text journal → IsAnalysedOn target limits workers image replied text journal
-report_alone (Msp430 ram) limits workers image replied text journal is =
-    alone_by msp430_text (msp430_analysis (msp430_setting ram limits image)) (msp430_texts (device_of ram image)) workers replied text journal is
-report_alone Mcs51 limits workers image replied text journal is =
-    alone_by mcs51_text (mcs51_analysis (mcs51_setting limits image)) mcs51_texts workers replied text journal is
+-- the summary of a made program, put together from the book and what its report tells
+pub summary_by : {A : Type 0} (text_of : ℕ → List ℕ → List ℕ) (m : Analysis A) (chip : ChipName) (number : ℕ) (journal : List Event)
+    (report text : List ℕ) (is_closed : Bool) (deepest : Option Deepest) (counts : Counts) (replied : Status)
+    → IsAnalysis m 1 journal → AreBounded m journal → IsReportOf text_of (replay m journal) report is_closed
+    → replied ≡ status_of_analysis is_closed → deepest ≡ deepest_of None (items_of (last_works m journal))
+    → counts ≡ counts_of (reported_lines text_of (last_works m journal)) → text ≡ summary chip number is_closed deepest counts
+    → IsSummary text_of m chip number replied text journal
+summary_by text_of m chip number journal report text is_closed deepest counts replied is bounded reported told deepest_is counts_are text_is =
+    let works = last_works m journal in
+    let finished : reported.finished ≡ true = reported.is_finished.1 is.finished in
+    let closes : is_closed ≡ are_closed works = reported.says ∙ ap (λ f. f && are_closed works) finished in (
+      report,
+      analysed_by text_of m 1 journal report is_closed replied is bounded reported told,
+      text_is ∙ ap (λ b. summary chip number b deepest counts) closes
+          ∙ ap (λ d. summary chip number (are_closed works) d counts) deepest_is
+          ∙ ap (summary chip number (are_closed works) (deepest_of None (items_of works))) counts_are,
+    )
 
 -- what holds of each reply by two facts
 pub if_both : {A E : Type 0} (r : Result A E) (P Q R : A → Type 0) → ((a : A) → P a → Q a → R a) → IfOk r P → IfOk r Q → IfOk r R

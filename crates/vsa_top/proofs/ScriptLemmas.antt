@@ -6,7 +6,7 @@ use Rattle.script_text.specs.declared.fault.ScriptError.{ScriptError}
 use Rattle.script_text.specs.declared.fault.ScriptError.TheVariants as script_error
 use Rattle.script_text.specs.Script.{script_of}
 use Rattle.script_text.specs.Reading.{Reading, IsRefusedWithin, TellsWhole}
-use Rattle.vsa_io.specs.Stream.{Takes, IsAtEnd}
+use Rattle.streams.specs.Stream.{Takes, IsAtEnd}
 use Rattle.vsa_top.specs.Input.{begun_with}
 use Rattle.vsa_top.specs.Scripts.{IsAt, IsScript, LacksScript, refusal_of, second_limit}
 use Rattle.vsa_top.specs.Scripts.IsAt.{going, refused}

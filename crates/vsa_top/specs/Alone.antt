@@ -1,6 +1,6 @@
 -- What one worker answers is a function of the words and the input.
 use Rattle.std.specs.Prelude.{◌≡◌, ◌⊎◌, ℕ, Option, List}
-use Rattle.vsa_io.specs.Stream.{appended}
+use Rattle.streams.specs.Stream.{appended}
 use Rattle.round_core.specs.declared.event.Event.{Event}
 use Rattle.image.specs.declared.chip_name.ChipName.{ChipName}
 use Rattle.vsa_top.specs.declared.outcome.Status.{Status}

@@ -1,11 +1,11 @@
 -- What the program answers to an input.
-use Rattle.std.specs.Prelude.{◌≡◌, ◌≢◌, ◌⊎◌, All, Bool, true, false, if◌then◌else◌, ℕ, ◌<◌, ◌≤◌, Option, Some, IfSome, List, [], ◌++◌, length, codes}
+use Rattle.std.specs.Prelude.{◌≡◌, ◌≢◌, ◌⊎◌, All, Bool, true, false, if◌then◌else◌, ℕ, ◌<◌, ◌≤◌, Option, None, Some, IfSome, List, [], ◌++◌, length, codes}
 use Rattle.std.specs.Fmt.{decimal}
 use Rattle.ihex_read.specs.declared.fault.HexFault.{HexFault}
 use Rattle.ihex_read.specs.Names.{fault_name}
-use Rattle.vsa_io.specs.Stream.{appended, AppendsPrefix}
+use Rattle.streams.specs.Stream.{appended, AppendsPrefix}
 use Rattle.analysis_limits.specs.declared.limits.Limits.{Limits}
-use Rattle.chip_law.specs.Analysis.{Analysis}
+use Rattle.chip_analysis.specs.Analysis.{Analysis}
 use Rattle.closing_law.specs.Bounded.{AreBounded}
 use Rattle.round_core.specs.declared.event.Event.{Event}
 use Rattle.round_core.specs.Counts.{seat_of}
@@ -14,7 +14,8 @@ use Rattle.worker_rounds.specs.Turns.{AreTurns}
 use Rattle.run_trace.specs.declared.trace.End.{End}
 use Rattle.run_trace.specs.declared.trace.End.TheVariants as ended
 use Rattle.run_trace.specs.Trace.{Ended}
-use Rattle.report_text.specs.Report.{are_closed, last_works, report_of_journal}
+use Rattle.report_text.specs.Deepest.{deepest_of}
+use Rattle.report_text.specs.Report.{are_closed, counts_of, items_of, last_works, report_of_journal, reported_lines}
 use Rattle.mcs51_flow.specs.Standing.{instr_text as mcs51_text}
 use Rattle.mcs51_flow.specs.Chip.{mcs51_analysis}
 use Rattle.msp430_flow.specs.Standing.{instr_text as msp430_text}
@@ -35,7 +36,7 @@ use Rattle.vsa_top.specs.Summary.{summary}
 use Rattle.vsa_top.specs.Mcs51.{mcs51_reads, mcs51_run}
 use Rattle.vsa_top.specs.Msp430.{msp430_reads, msp430_run}
 use Rattle.vsa_top.specs.Settings.{device_of, mcs51_setting, msp430_setting}
-use Rattle.vsa_words.specs.Words.{rules_of, usual_task, tail_of}
+use Rattle.vsa_words.specs.Words.{rules_of, usual_limits, usual_target, tail_of}
 use Rattle.image.specs.declared.chip_name.ChipName.{ChipName}
 use Rattle.vsa_top.specs.declared.outcome.Status.{Status}
 use Rattle.vsa_top.specs.declared.outcome.Status.TheVariants as status
@@ -107,9 +108,6 @@ IsAnalysedOn (Msp430 ram) limits workers image replied text journal =
     IsAnalysed msp430_text (msp430_analysis (msp430_setting ram limits image)) workers replied text journal
 IsAnalysedOn Mcs51 limits workers image replied text journal =
     IsAnalysed mcs51_text (mcs51_analysis (mcs51_setting limits image)) workers replied text journal
-
-abbrev pub IsAnalysedBy : Task → List (Option ℕ) → Status → List ℕ → List Event → Type 0
-IsAnalysedBy task image replied text journal = IsAnalysedOn task.target task.limits task.workers image replied text journal
 
 -- the text is the report, or the report with the certificate of the book behind it that the journal leads to
 abbrev pub IsFollowed : {A : Type 0} → Analysis A → StateTexts A → (cert : Bool) → List Event → (report text : List ℕ) → Type 0
@@ -184,10 +182,34 @@ IsCheckedOn (Msp430 ram) limits image second replied text =
 IsCheckedOn Mcs51 limits image second replied text =
     IsChecked mcs51_text (mcs51_analysis (mcs51_setting limits image)) mcs51_texts second replied text
 
--- the reply to the image of a made program: the summary of its report
+-- the summary of the report of the book that a journal leads to
+abbrev pub summary_of_journal : {A : Type 0} → (ℕ → List ℕ → List ℕ) → Analysis A → ChipName → (number : ℕ) → List Event → List ℕ
+summary_of_journal text_of analysis chip number journal = let works = last_works analysis journal in
+    summary chip number (are_closed works) (deepest_of None (items_of works)) (counts_of (reported_lines text_of works))
+
+-- that of the chip with this image, under these limits
+abbrev pub summary_on : Target → Limits → List (Option ℕ) → ChipName → (number : ℕ) → List Event → List ℕ
+summary_on (Msp430 ram) limits image chip number journal =
+    summary_of_journal msp430_text (msp430_analysis (msp430_setting ram limits image)) chip number journal
+summary_on Mcs51 limits image chip number journal =
+    summary_of_journal mcs51_text (mcs51_analysis (mcs51_setting limits image)) chip number journal
+
+-- the reply to a program that one worker analyses as a made one: the summary of its report
+abbrev pub IsSummary : {A : Type 0} → (ℕ → List ℕ → List ℕ) → Analysis A → ChipName → (number : ℕ) → Status → List ℕ → List Event → Type 0
+IsSummary text_of analysis chip number replied text journal =
+    (report : List ℕ) × IsAnalysed text_of analysis 1 replied report journal
+    × (text ≡ summary_of_journal text_of analysis chip number journal)
+
+-- that of the chip with this image, under these limits
+abbrev pub IsSummedOn : Target → Limits → List (Option ℕ) → ChipName → (number : ℕ) → Status → List ℕ → List Event → Type 0
+IsSummedOn target limits image chip number replied text journal =
+    (report : List ℕ) × IsAnalysedOn target limits 1 image replied report journal
+    × (text ≡ summary_on target limits image chip number journal)
+
+-- the reply to the image of a made program, which has the usual RAM and limits
 abbrev pub IsSummed : ChipName → (number : ℕ) → List (Option ℕ) → Status → List ℕ → List Event → Type 0
 IsSummed chip number image replied text journal =
-    (report : List ℕ) × IsAnalysedBy (usual_task chip) image replied report journal × (text ≡ summary chip number report)
+    IsSummedOn (usual_target chip) usual_limits image chip number replied text journal
 
 -- the reply to an image
 abbrev pub IsImageReply : Reading → List (Option ℕ) → (second : Option (List ℕ)) → Status → List ℕ → List Event → Type 0

@@ -9,7 +9,7 @@ use Rattle.assert_check.specs.declared.deciding.Broken.{Broken}
 use Rattle.assert_check.specs.declared.lines.AssertError.{AssertError}
 use Rattle.assert_check.specs.declared.lines.AssertError.TheVariants as assert_error
 use Rattle.call_context.specs.declared.shown.Item.{Item}
-use Rattle.chip_law.specs.Analysis.{Analysis}
+use Rattle.chip_analysis.specs.Analysis.{Analysis}
 use Rattle.item_lines.specs.Line.{item_line_of}
 use Rattle.chip_numbers.specs.declared.space.Space.{Space}
 use Rattle.chip_numbers.specs.declared.space.Space.TheVariants.{Mem, Ram, Sfr, Xram, Code}

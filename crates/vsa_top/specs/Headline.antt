@@ -1,10 +1,10 @@
 -- What a report says of every run of the chip whose image the input denotes.
 use Rattle.std.specs.Prelude.{◌≡◌, Bool, false, [], ◌++◌, ℕ, Option, Some, Ok, List}
 use Rattle.analysis_limits.specs.declared.limits.Limits.{Limits}
-use Rattle.ihex_read.specs.declared.tail.Tail.TheVariants.{Blank, Second}
+use Rattle.image.specs.declared.tail.Tail.TheVariants.{Blank, Second}
 use Rattle.ihex_read.specs.ImageText.{Denotes}
-use Rattle.ihex_read.specs.Lines as texts
-use Rattle.vsa_io.specs.Stream.{appended}
+use Rattle.text_lines.specs.Lines as texts
+use Rattle.streams.specs.Stream.{appended}
 use Rattle.round_core.specs.declared.event.Event.{Event}
 use Rattle.report_text.specs.Promise.{CoversEveryRun, ShowsOpenSites}
 use Rattle.mcs51_flow.specs.Chip.{mcs51_analysis}

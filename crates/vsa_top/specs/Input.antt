@@ -5,11 +5,11 @@ use Rattle.ihex_read.specs.declared.fault.HexFault.{HexFault}
 use Rattle.ihex_read.specs.declared.fault.HexError.{HexError}
 use Rattle.ihex_read.specs.declared.fault.HexError.TheVariants as hex_error
 use Rattle.image.specs.declared.rule_set.Rules.{Rules}
-use Rattle.ihex_read.specs.declared.tail.Tail.{Tail}
-use Rattle.ihex_read.specs.declared.tail.Tail.TheVariants.{Blank, Second}
+use Rattle.image.specs.declared.tail.Tail.{Tail}
+use Rattle.image.specs.declared.tail.Tail.TheVariants.{Blank, Second}
 use Rattle.ihex_read.specs.ImageText.{Denotes, FirstFault}
-use Rattle.ihex_read.specs.Lines.{lines_of}
-use Rattle.ihex_read.specs.Reading.{feeds_of, FaultsWithin, HasEnded}
+use Rattle.text_lines.specs.Lines.{feeds_of, lines_of}
+use Rattle.ihex_read.specs.Reading.{FaultsWithin, HasEnded}
 use Rattle.vsa_top.specs.declared.input.InputError.{InputError}
 use Rattle.vsa_top.specs.declared.input.InputError.TheVariants.{Failed, Memory, Bad, TooLong}
 use Rattle.vsa_words.specs.declared.reading.Reading.{Reading}

@@ -1,11 +1,11 @@
 -- The certificate that an analysis writes behind its report.
 use Rattle.std.specs.Prelude.{◌≡◌, true, false, ◌++◌, ℕ, Option, Some, List}
 use Rattle.analysis_limits.specs.declared.limits.Limits.{Limits}
-use Rattle.ihex_read.specs.declared.tail.Tail.TheVariants.{Blank}
+use Rattle.image.specs.declared.tail.Tail.TheVariants.{Blank}
 use Rattle.ihex_read.specs.ImageText.{Denotes}
-use Rattle.ihex_read.specs.Lines as texts
+use Rattle.text_lines.specs.Lines as texts
 use Rattle.round_core.specs.declared.event.Event.{Event}
-use Rattle.vsa_io.specs.Stream.{appended}
+use Rattle.streams.specs.Stream.{appended}
 use Rattle.vsa_top.specs.Answer.{IsReportedOn}
 use Rattle.vsa_top.specs.declared.outcome.Status.{Status}
 use Rattle.vsa_top.specs.declared.outcome.Status.TheVariants.{Done}

@@ -10,7 +10,7 @@ ghost use Rattle.image.specs.Kept.{IsRamRange, IsReadUnder};
 ghost use Rattle.report_text.specs.Report.{are_closed, last_works};
 ghost use Rattle.round_core.specs.Machine.{replay, IsFinished, IsLegalJournal};
 ghost use Rattle.round_core.specs.declared.event.Event.{Event as AnEvent};
-ghost use Rattle.vsa_io.specs.Stream.{HasRisen};
+ghost use Rattle.streams.specs.Stream.{HasRisen};
 ghost use Rattle.vsa_top.specs.Answer.{IsAnalysis, IsAsserted, IsDecided, IsDecidedOn, TellsNoFault};
 ghost use Rattle.vsa_top.specs.Asserted.{AreAsserted, LacksAssertions, broken_in, broken_text, fails_line, spaces_of, status_of_broken};
 ghost use Rattle.vsa_top.specs.Input.{begun_with};
@@ -36,7 +36,7 @@ use round_core::{Book, Event};
 use std::alloc::Global;
 use std::sync::Wait;
 use std::thread::Threads;
-use vsa_io::Source;
+use streams::Source;
 use vsa_words::{Target, Task};
 use worker_rounds::Gate;
 

@@ -2,7 +2,7 @@
 
 ghost use Rattle.std.specs.Prelude.{◌≡◌, ◌≢◌, [], IfOk, IfErr, OnOk};
 ghost use Rattle.image.specs.Kept.{IsRamRange, IsReadUnder};
-ghost use Rattle.vsa_io.specs.Stream.{HasRisen};
+ghost use Rattle.streams.specs.Stream.{HasRisen};
 ghost use Rattle.vsa_top.specs.Answer as answers;
 ghost use Rattle.vsa_top.specs.Answer.{IsChecked, IsCheckedOn, TellsNoFault};
 ghost use Rattle.vsa_top.specs.Input.{begun_with};
@@ -19,7 +19,7 @@ use mcs51_flow::Mcs51Chip;
 use msp430_flow::Msp430Chip;
 use state_text::LawfulText;
 use std::alloc::Global;
-use vsa_io::Source;
+use streams::Source;
 use vsa_words::{Target, Task};
 
 /// The status of a verdict.

@@ -7,7 +7,7 @@ ghost use Rattle.vsa_top.specs.declared.outcome.Status.{Status as AStatus};
 ghost use Rattle.vsa_top.specs.Answer.{Analyses, Answers, Ends, IsVerdictOn};
 ghost use Rattle.vsa_top.specs.Input.{Gives, input_of};
 ghost use Rattle.vsa_words.specs.Words.{EndsInMemory, IsBounded, rules_of, tail_of};
-ghost use Rattle.ihex_read.specs.declared.tail.Tail.TheVariants.{Second};
+ghost use Rattle.image.specs.declared.tail.Tail.TheVariants.{Second};
 ghost use Rattle.image.specs.Kept.{IsRamRange};
 ghost use Rattle.image.specs.declared.chip_name.ChipName.{ChipName as AChip};
 ghost use Rattle.vsa_words.specs.declared.reading.Reading.TheVariants.{Analyse, Assert, Check, Gen};

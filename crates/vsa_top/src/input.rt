@@ -2,9 +2,9 @@
 
 ghost use Rattle.std.specs.Prelude.{◌≡◌, ◌≢◌, ◌+◌, ◌++◌, ◌<◌, ◌≤◌, ◌↔◌, ℕ, List, [], None, Some, IsTrue, length, take, IfOk, IfErr, OnOk, IfSome};
 ghost use Rattle.image.specs.Kept.{IsRamRange, IsReadUnder};
-ghost use Rattle.ihex_read.specs.declared.tail.Tail.TheVariants.{Second};
+ghost use Rattle.image.specs.declared.tail.Tail.TheVariants.{Second};
 ghost use Rattle.ihex_read.specs.Reading.{HasEnded};
-ghost use Rattle.vsa_io.specs.Stream.{HasRisen};
+ghost use Rattle.streams.specs.Stream.{HasRisen};
 ghost use Rattle.vsa_top.specs.Input.{InputGives, LacksImage, begun_with};
 
 use ihex_read::{
@@ -13,7 +13,7 @@ use ihex_read::{
 use image::{Image, Rules};
 use no_memory::Memory;
 use std::alloc::{AllocError, Global};
-use vsa_io::{Failed, Source};
+use streams::{Failed, Source};
 
 /// Why an input gives no image.
 #[derive(Clone, Copy, Debug, PartialEq, Eq)]

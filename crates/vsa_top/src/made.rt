@@ -4,7 +4,7 @@ ghost use Rattle.std.specs.Prelude.{◌≡◌, ◌≢◌, ◌≤◌, ℕ, IfOk, 
 ghost use Rattle.image.specs.Kept.{IsRamRange};
 ghost use Rattle.image.specs.declared.chip_name.ChipName.{ChipName as AChip};
 ghost use Rattle.image_gen.specs.Made.{made_image};
-ghost use Rattle.vsa_io.specs.Stream.{HasRisen};
+ghost use Rattle.streams.specs.Stream.{HasRisen};
 ghost use Rattle.vsa_top.specs.Answer.{IsReply, TellsNoFault};
 ghost use Rattle.vsa_top.specs.Input.{input_of};
 ghost use Rattle.vsa_words.specs.Words.{IsBounded, rules_of};
@@ -16,7 +16,8 @@ use image_gen::{MOST, make};
 use std::alloc::Global;
 use std::sync::Wait;
 use std::thread::Threads;
-use vsa_io::{CleanSource, Source};
+use streams::Source;
+use vsa_io::CleanSource;
 use vsa_words::Reading;
 use worker_rounds::Gate;
 

@@ -2,12 +2,12 @@
 
 ghost use Rattle.std.specs.Prelude.{◌≡◌, ◌≢◌, ◌≤◌, ℕ, [], IfOk, IfErr, OnOk};
 ghost use Rattle.image.specs.Kept.{IsRamRange, IsReadUnder};
-ghost use Rattle.vsa_io.specs.Stream.{HasRisen};
+ghost use Rattle.streams.specs.Stream.{HasRisen};
 ghost use Rattle.run_trace.specs.Trace.{run_of};
-ghost use Rattle.vsa_top.specs.Answer.{IsAnalysis, IsFollowed, IsImageReply, IsListing, IsReply, IsReported, IsReportedOn, IsRun, IsSummed, TellsNoFault, bad_line as the_bad_line, no_line as the_no_line, run_under, status_of_analysis, status_of_end};
+ghost use Rattle.vsa_top.specs.Answer.{IsAnalysis, IsFollowed, IsImageReply, IsListing, IsReply, IsReported, IsReportedOn, IsRun, TellsNoFault, bad_line as the_bad_line, no_line as the_no_line, run_under, status_of_analysis, status_of_end};
 ghost use Rattle.vsa_top.specs.Input.{begun_with};
 ghost use Rattle.vsa_words.specs.Words.{IsBounded, rules_of, target_rules};
-ghost use Rattle.vsa_words.specs.declared.reading.Reading.TheVariants.{Analyse, Gen};
+ghost use Rattle.vsa_words.specs.declared.reading.Reading.TheVariants.{Analyse};
 
 use crate::asserting::assertion_reply;
 use crate::checking::check_reply;
@@ -16,14 +16,14 @@ use crate::mcs51::{Mcs51Code, Mcs51Run};
 use crate::msp430::{Msp430Code, Msp430Run};
 use crate::outcome::Status;
 use crate::script::{ScriptRefusal, script_in};
-use crate::summary::summary_of;
+use crate::summary::made_image_reply;
 use cert_text::book_certificate;
-use chip_law::Chip;
+use chip_analysis::Chip;
 use closing_law::books_are_bounded;
 use dense_text::Text;
 use disassembly::disassembly_of;
 use ihex_read::HexFault;
-use image::{ChipName, Image};
+use image::Image;
 use item_lines::InstrText;
 use mcs51_flow::{Mcs51Chip, Mcs51Text};
 use msp430_chip::Device;
@@ -36,7 +36,7 @@ use state_text::LawfulText;
 use std::alloc::{AllocError, Global};
 use std::sync::Wait;
 use std::thread::Threads;
-use vsa_io::Source;
+use streams::Source;
 use vsa_words::{Reading, Target, Task};
 use worker_crew::fixpoint;
 use worker_rounds::{Gate, watched_fixpoint};
@@ -101,7 +101,7 @@ pub fn text_reply(alloc: Global, status: Status, text: Vec<u8>) -> Reply
 }
 
 /// The status of a report.
-fn status_of(is_closed: bool) -> Status
+pub fn status_of(is_closed: bool) -> Status
     ensures value { result ≡ status_of_analysis is_closed }
     ensures no_fault { TellsNoFault result }
 {
@@ -125,7 +125,7 @@ fn status_of_run(end: End) -> Status
 }
 
 /// The book of a program that one worker analyses.
-fn book_alone<C: Chip, G: Gate>(alloc: Global, chip: &C, gate: &G) -> Result<Book<C>, Memory>
+pub fn book_alone<C: Chip, G: Gate>(alloc: Global, chip: &C, gate: &G) -> Result<Book<C>, Memory>
     ensures base { IfOk result (λ book. book.base ≡ C.base chip.now) }
     ensures analysis { IfOk result (λ book. IsAnalysis (C.analysis book.base) 1 book.journal) }
 {
@@ -341,30 +341,6 @@ fn analysis_reply<R: Threads + Wait + Sync, G: Gate + Sync>(
     }
 }
 
-/// The summary of the analysis of a made program.
-fn made_image_reply<R: Threads + Wait + Sync, G: Gate + Sync>(
-    rt: &R,
-    alloc: Global,
-    chip: ChipName,
-    number: u32,
-    image: Image,
-    gate: &G,
-) -> Result<Reply, Memory>
-    requires range { IsRamRange (rules_of (Gen chip number)) }
-    requires kept { IsReadUnder (rules_of (Gen chip number)) image }
-    ensures no_fault { IfOk result (λ reply. TellsNoFault reply.status) }
-    ensures reply { IfOk result (λ reply. IsSummed chip number image reply.status reply.text reply.journal.items) }
-{
-    let reply = analysis_reply(rt, alloc, Task::usual(chip), image, gate)?;
-    let report = reply.text.into_bytes()?;
-    let text = summary_of(alloc, chip, number, report.as_slice())?;
-    Ok(Reply {
-        status: reply.status,
-        text: Text::from_bytes(text),
-        journal: reply.journal,
-    })
-}
-
 /// What the words ask of an image, behind whose text so much was read.
 fn image_reply<R: Threads + Wait + Sync, S: Source, G: Gate + Sync>(
     rt: &R,
@@ -395,9 +371,7 @@ fn image_reply<R: Threads + Wait + Sync, S: Source, G: Gate + Sync>(
         Reading::Run { target, steps } => {
             chip_run_reply(alloc, target, steps, image, begun, source)
         }
-        Reading::Gen { chip, number } => {
-            Ok(made_image_reply(rt, alloc, chip, number, image, gate)?)
-        }
+        Reading::Gen { chip, number } => { Ok(made_image_reply(alloc, chip, number, image, gate)?) }
     }
 }
 

@@ -1,13 +1,13 @@
 //! Reading the script of a source, behind its image text.
 
 ghost use Rattle.std.specs.Prelude.{◌≡◌, ◌≢◌, ◌+◌, ◌++◌, ◌<◌, ◌≤◌, ℕ, List, length, IfOk, IfErr, OnOk, IfSome};
-ghost use Rattle.vsa_io.specs.Stream.{HasRisen};
+ghost use Rattle.streams.specs.Stream.{HasRisen};
 ghost use Rattle.vsa_top.specs.Input.{begun_with};
 ghost use Rattle.vsa_top.specs.Scripts.{IsAt, IsScript, LacksScript};
 
 use script_text::{MOST_BYTES, Reader, ScriptError, refusals_stay};
 use std::alloc::Global;
-use vsa_io::{Failed, Source};
+use streams::{Failed, Source};
 
 /// Why what stands behind an image text is no script.
 #[derive(Clone, Copy, Debug, PartialEq, Eq)]

@@ -1,7 +1,7 @@
 //! Reading the text behind an image text, and its assertions.
 
 ghost use Rattle.std.specs.Prelude.{◌≡◌, ◌≢◌, ◌≤◌, ◌<◌, length, IfOk, IfErr, OnOk, IfSome};
-ghost use Rattle.vsa_io.specs.Stream.{HasRisen};
+ghost use Rattle.streams.specs.Stream.{HasRisen};
 ghost use Rattle.vsa_top.specs.Asserted.{AreAsserted, LacksAssertions};
 ghost use Rattle.vsa_top.specs.Input.{begun_with};
 
@@ -9,7 +9,7 @@ use crate::script::ScriptRefusal;
 use assert_check::{AssertError, Assertion, MOST_BYTES, read_lines};
 use chip_numbers::Space;
 use std::alloc::{AllocError, Global};
-use vsa_io::{Failed, Source};
+use streams::{Failed, Source};
 
 /// Why what stands behind an image text isn't read.
 #[derive(Clone, Copy, Debug, PartialEq, Eq)]

@@ -1,65 +1,25 @@
 //! What is told of a made program in place of its report.
 
-ghost use Rattle.std.specs.Prelude.{◌≡◌, ◌==◌, ◌++◌, false, IfOk, OnOk, count_by};
-ghost use Rattle.vsa_top.specs.Summary.{count_line, first_line as the_first_line, from_line as the_text_from, initials as the_initials, summary};
+ghost use Rattle.std.specs.Prelude.{◌≡◌, ◌++◌, IfOk, OnOk};
+ghost use Rattle.image.specs.Kept.{IsRamRange, IsReadUnder};
+ghost use Rattle.vsa_top.specs.Answer.{IsSummary, IsSummed, IsSummedOn, TellsNoFault};
+ghost use Rattle.vsa_top.specs.Summary.{count_line, count_lines, summary};
+ghost use Rattle.vsa_words.specs.Words.{IsBounded, rules_of};
+ghost use Rattle.vsa_words.specs.declared.reading.Reading.TheVariants.{Analyse, Gen};
 
-use image::ChipName;
+use crate::reply::{Reply, book_alone, status_of};
+use chip_law::LawfulChip;
+use closing_law::books_are_bounded;
+use dense_text::Text;
+use image::{ChipName, Image};
+use item_lines::InstrText;
+use mcs51_flow::Mcs51Chip;
+use msp430_flow::Msp430Chip;
+use no_memory::Memory;
+use report_text::{Counts, Report, head_line, push_summary, report_of};
 use std::alloc::{AllocError, Global};
-use vsa_words::word_of;
-
-/// The first line of a text, with its line feed.
-fn first_line(text: &[u8]) -> &[u8]
-    ensures { result.now ≡ the_first_line text.now }
-{
-    for k in 0..text.len() {
-        if text[k] == b'\n' {
-            return &text[..k + 1];
-        }
-    }
-    text
-}
-
-/// The first letters of a text's lines, but that of the first line.
-fn initials(alloc: Global, text: &[u8]) -> Result<Vec<u8>, AllocError>
-    ensures { IfOk result (λ letters. letters.items ≡ the_initials false text.now) }
-{
-    let mut letters = Vec::new(alloc);
-    let mut begins = false;
-    for byte in text {
-        if begins {
-            letters.push(*byte)?;
-        }
-        begins = *byte == b'\n';
-    }
-    Ok(letters)
-}
-
-/// A text from its first line on that begins with this letter, but for the text's first line.
-fn from_line(text: &[u8], letter: u8) -> &[u8]
-    ensures { result.now ≡ the_text_from letter false text.now }
-{
-    let mut begins = false;
-    for k in 0..text.len() {
-        if begins && text[k] == letter {
-            return &text[k..];
-        }
-        begins = text[k] == b'\n';
-    }
-    &text[text.len()..]
-}
-
-/// How many of some letters are this one.
-fn count_of(letters: &[u8], letter: u8) -> u64
-    ensures { result ≡ count_by (λ initial. initial == letter) letters.now }
-{
-    let mut count = 0;
-    for initial in letters {
-        if *initial == letter {
-            count += 1;
-        }
-    }
-    count
-}
+use vsa_words::{Target, Task, word_of};
+use worker_rounds::Gate;
 
 /// Adds the number of a report's lines that begin with a letter.
 #[tactic(auto, unfolding(crate::specs::Summary::count_line))]
@@ -73,16 +33,27 @@ fn push_count(text: &mut Vec<u8>, letter: u8, count: u64) -> Result<(), AllocErr
     text.push(b'\n').map_err(AllocError::from)
 }
 
-/// What is told of a report of a made program of `number` functions.
-pub fn summary_of(
+/// Adds the numbers of a report's lines of each kind.
+fn push_counts(text: &mut Vec<u8>, counts: Counts) -> Result<(), AllocError>
+    ensures { OnOk result (text.new.items ≡ text.old.items ++ count_lines counts) }
+{
+    push_count(text, b'E', counts.edges)?;
+    push_count(text, b'I', counts.instrs)?;
+    push_count(text, b'M', counts.accesses)?;
+    push_count(text, b'O', counts.opens)?;
+    push_count(text, b'S', counts.stacks)
+}
+
+/// What is told of the report of a made program of `number` functions.
+fn summary_of(
     alloc: Global,
     chip: ChipName,
     number: u32,
-    report: &[u8],
+    report: &Report,
 ) -> Result<Vec<u8>, AllocError>
-    ensures { IfOk result (λ text. text.items ≡ summary chip number report.now) }
+    ensures { IfOk result (λ text. text.items
+        ≡ summary chip number report.now.is_closed report.now.deepest report.now.counts) }
 {
-    let letters = initials(alloc, report)?;
     let mut text = Vec::new(alloc);
     text.extend_from_slice(b"GEN ")?;
     text.extend_from_slice(word_of(chip).as_bytes())?;
@@ -90,10 +61,78 @@ pub fn summary_of(
     let digits = number.to_string(alloc)?;
     text.extend_from_slice(digits.as_str().as_bytes())?;
     text.push(b'\n')?;
-    text.extend_from_slice(first_line(report))?;
-    for letter in *b"EIMOS" {
-        push_count(&mut text, letter, count_of(&letters, letter))?;
-    }
-    text.extend_from_slice(from_line(report, b'T'))?;
+    text.extend_from_slice(head_line(report.is_closed))?;
+    push_counts(&mut text, report.counts)?;
+    push_summary(&mut text, report.deepest, report.counts.whole)?;
     Ok(text)
+}
+
+/// The summary of a made program that one worker analyses.
+fn chip_summary<C: LawfulChip + InstrText, G: Gate>(
+    alloc: Global,
+    program: &C,
+    chip: ChipName,
+    number: u32,
+    gate: &G,
+) -> Result<Reply, Memory>
+    ensures no_fault { IfOk result (λ reply. TellsNoFault reply.status) }
+    ensures reply { IfOk result (λ reply. IsSummary (C.text_of program.now) (C.analysis (C.base program.now))
+        chip number reply.status reply.text reply.journal.items) }
+{
+    books_are_bounded::<C>();
+    program.is_program();
+    let book = book_alone(alloc, program, gate)?;
+    let report = report_of(alloc, program, &book)?;
+    let text = summary_of(alloc, chip, number, &report)?;
+    let (_, _, journal) = book.into_parts();
+    Ok(Reply {
+        status: status_of(report.is_closed),
+        text: Text::from_bytes(text),
+        journal,
+    })
+}
+
+/// The summary of a made program whose image this is.
+fn image_summary<G: Gate>(
+    alloc: Global,
+    chip: ChipName,
+    number: u32,
+    task: Task,
+    image: Image,
+    gate: &G,
+) -> Result<Reply, Memory>
+    requires range { IsRamRange (rules_of (Analyse task)) }
+    requires bounded { IsBounded (Analyse task) }
+    requires kept { IsReadUnder (rules_of (Analyse task)) image }
+    ensures no_fault { IfOk result (λ reply. TellsNoFault reply.status) }
+    ensures reply { IfOk result (λ reply. IsSummedOn task.target task.limits image
+        chip number reply.status reply.text reply.journal.items) }
+{
+    match task.target {
+        Target::Msp430 { ram } => {
+            let program = Msp430Chip::new(alloc, image, ram.lo, ram.hi, ram.mirror, task.limits)?;
+            chip_summary(alloc, &program, chip, number, gate)
+        }
+        Target::Mcs51 => {
+            let program = Mcs51Chip::new(alloc, image, task.limits)?;
+            chip_summary(alloc, &program, chip, number, gate)
+        }
+    }
+}
+
+/// The summary of the analysis of a made program.
+pub fn made_image_reply<G: Gate>(
+    alloc: Global,
+    chip: ChipName,
+    number: u32,
+    image: Image,
+    gate: &G,
+) -> Result<Reply, Memory>
+    requires range { IsRamRange (rules_of (Gen chip number)) }
+    requires kept { IsReadUnder (rules_of (Gen chip number)) image }
+    ensures no_fault { IfOk result (λ reply. TellsNoFault reply.status) }
+    ensures reply { IfOk result (λ reply.
+        IsSummed chip number image reply.status reply.text reply.journal.items) }
+{
+    image_summary(alloc, chip, number, Task::usual(chip), image, gate)
 }

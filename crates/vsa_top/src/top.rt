@@ -1,8 +1,8 @@
 //! The top call.
 
 ghost use Rattle.std.specs.Prelude.{◌≡◌, ◌≢◌, [], ◌≤◌, ℕ, List, Option, Some, true, length, ◌⊎◌};
-ghost use Rattle.vsa_io.specs.Stream.{HasRisen, AppendsPrefix, appended};
-ghost use Rattle.ihex_read.specs.declared.tail.Tail.TheVariants.{Second};
+ghost use Rattle.streams.specs.Stream.{HasRisen, AppendsPrefix, appended};
+ghost use Rattle.image.specs.declared.tail.Tail.TheVariants.{Second};
 ghost use Rattle.image.specs.Kept.{IsRamRange};
 ghost use Rattle.vsa_top.specs.Headline.{CertifiesOn, CoversRunsOf, HoldsOf, ReportsOn, ShowsSitesOf};
 ghost use Rattle.image.specs.declared.chip_name.ChipName.{ChipName as AChip};
@@ -27,7 +27,7 @@ use round_core::Event;
 use std::alloc::Global;
 use std::sync::Wait;
 use std::thread::Threads;
-use vsa_io::{Sink, Source, write_all};
+use streams::{Sink, Source, write_all};
 use vsa_words::{Reading, reading_of};
 use worker_rounds::Gate;
 

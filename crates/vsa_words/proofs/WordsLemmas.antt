@@ -25,7 +25,7 @@ use Rattle.vsa_words.specs.declared.reading.Target.{Target}
 use Rattle.clap.specs.Words.{first_value, matches_of, rows_of}
 use Rattle.clap.specs.declared.parser.matches.Found.{Found}
 use Rattle.vsa_words.specs.Command.{AreTaken, command, given}
-use Rattle.ihex_read.specs.Word.{word_from, word_of_digits}
+use Rattle.hex_digits.specs.EitherCase.{word_from, word_in_either_case}
 use Rattle.vsa_words.specs.Numbers.{IsDigit, IsNumber, IsNumberBehind, IsNumberIn, IsRange, number_behind}
 use Rattle.vsa_words.specs.Options.{IsNumberFor, IsSaid, Say, SaysNumber, SaysRange, is_given, option_word, value_of}
 use Rattle.vsa_words.specs.Words.{Ask, EndsInMemory, IsAsked, IsBounded, IsOnlyReading, Reads, asked, chip_word, mode_word, or_else, ram_by, rules_of, target_by, target_rules, task_of, usual_target}
@@ -266,7 +266,7 @@ four_below (Some a) (Some b) None d h i j k = tt
 four_below (Some a) None c d h i j k = tt
 four_below None b c d h i j k = tt
 
-number_below : (digits : List ℕ) → IfSome (word_of_digits digits) (λ n. n < 65536)
+number_below : (digits : List ℕ) → IfSome (word_in_either_case digits) (λ n. n < 65536)
 number_below [] = tt
 number_below (a ∷ []) = tt
 number_below (a ∷ b ∷ []) = tt

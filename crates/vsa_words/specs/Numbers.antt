@@ -1,14 +1,14 @@
 -- Numbers and ranges of addresses as texts.
 use Rattle.std.specs.Prelude.{◌≡◌, ℕ, ◌+◌, ◌-◌, ◌*◌, ◌<◌, ◌≤◌, All, Some, List, [], ◌∷◌, length, take, drop, slice_index}
-use Rattle.ihex_read.specs.Word.{word_of_digits}
+use Rattle.hex_digits.specs.EitherCase.{word_in_either_case}
 use Rattle.vsa_words.specs.declared.numbers.Span.{Span}
 
 -- two numbers with a hyphen between
 pub record IsRange (text : List ℕ) (span : Span) : Type 0 where
   pub size : length text ≡ 9
   pub hyphen : slice_index text 4 ≡ 45
-  pub first : word_of_digits (take 4 text) ≡ Some span.lo
-  pub last : word_of_digits (drop 5 text) ≡ Some span.hi
+  pub first : word_in_either_case (take 4 text) ≡ Some span.lo
+  pub last : word_in_either_case (drop 5 text) ≡ Some span.hi
 
 -- the number that decimal digits write, behind those of another one
 abbrev pub number_behind : ℕ → List ℕ → ℕ

@@ -4,8 +4,8 @@ use Rattle.std.specs.Borrow.{Bor}
 use Rattle.std.specs.declared.string.String.{String}
 use Rattle.std.specs.declared.alloc.Global.{Global}
 use Rattle.analysis_limits.specs.declared.limits.Limits.{Limits}
-use Rattle.ihex_read.specs.declared.tail.Tail.{Tail}
-use Rattle.ihex_read.specs.declared.tail.Tail.TheVariants.{Blank, Second}
+use Rattle.image.specs.declared.tail.Tail.{Tail}
+use Rattle.image.specs.declared.tail.Tail.TheVariants.{Blank, Second}
 use Rattle.image.specs.declared.chip_name.ChipName.{ChipName}
 use Rattle.image.specs.declared.chip_name.ChipName.TheVariants as chip
 use Rattle.image.specs.declared.ram_range.RamRange.{RamRange}

@@ -4,7 +4,7 @@ ghost use Rattle.std.specs.Prelude.{◌≤◌, ℕ, MatchOption};
 ghost use Rattle.vsa_words.specs.declared.numbers.Span.{Span as ASpan};
 ghost use Rattle.vsa_words.specs.Numbers.{IsNumber, IsNumberBehind, IsNumberIn, IsRange};
 
-use ihex_read::word_of_digits;
+use hex_digits::word_in_either_case;
 
 /// The first and the last address of a range.
 #[derive(Clone, Copy, Debug, PartialEq, Eq)]
@@ -23,8 +23,8 @@ pub fn range_of(text: &[u8]) -> Option<Span>
     if text.len() != 9 || text[4] != b'-' {
         return None;
     }
-    let lo = word_of_digits(&text[..4])?;
-    let hi = word_of_digits(&text[5..])?;
+    let lo = word_in_either_case(&text[..4])?;
+    let hi = word_in_either_case(&text[5..])?;
     Some(Span { lo, hi })
 }
 

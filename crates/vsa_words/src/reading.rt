@@ -4,8 +4,7 @@ ghost use Rattle.std.specs.Prelude.{◌≡◌};
 ghost use Rattle.vsa_words.specs.Words.{chip_word, mode_word, rules_of, tail_of, target_of, target_rules, usual_target, usual_task};
 
 use analysis_limits::Limits;
-use ihex_read::Tail;
-use image::{ChipName, RamRange, Rules};
+use image::{ChipName, RamRange, Rules, Tail};
 
 /// What is done with an image.
 #[derive(Clone, Copy, Debug, PartialEq, Eq)]

@@ -6,7 +6,7 @@ use Rattle.std.proofs.lemmas.Bool.Decides.{nat_tests}
 use Rattle.std.proofs.lemmas.List.{map-append}
 use Rattle.atomic_table.specs.Seated.{TableId}
 use Rattle.call_context.specs.declared.node.Unit.{Unit as WorkUnit}
-use Rattle.chip_law.specs.Analysis.{Analysis}
+use Rattle.chip_analysis.specs.Analysis.{Analysis}
 use Rattle.fact_table.specs.Exchange.{AreOutOf, TellsLast, claim_events, post_events, tickets_of}
 use Rattle.fact_table.specs.Seats.{AreOutTo, Ends, Exchanges}
 use Rattle.fact_table.specs.declared.exchange.Exchanged.{Exchanged}

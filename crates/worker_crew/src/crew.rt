@@ -10,7 +10,7 @@ ghost use Rattle.worker_crew.specs.Turns.{AreAnswered, IsReady, StaysAnswered, T
 
 use crate::calls::Calls;
 use crate::worker::work;
-use chip_law::Chip;
+use chip_analysis::Chip;
 use fact_table::{FactTable, Seat};
 use no_memory::Memory;
 use round_core::Book;

@@ -8,7 +8,7 @@ ghost use Rattle.fact_table.specs.Named.{table_of};
 ghost use Rattle.worker_crew.specs.Turns.{GoesOn, IsReady, Serves, Works, units_of};
 
 use crate::calls::Calls;
-use chip_law::Chip;
+use chip_analysis::Chip;
 use fact_table::{Exchanged, FactTable, Last, Seat};
 use no_memory::Memory;
 use round_core::{Done, Ticket};

@@ -8,7 +8,7 @@ ghost use Rattle.worker_rounds.specs.Turns.{AreTurns};
 ghost use Rattle.call_context.specs.declared.node.Unit.{Unit as AUnit};
 
 use crate::gate::{Gate, NoGate};
-use chip_law::Chip;
+use chip_analysis::Chip;
 use no_memory::Memory;
 use round_core::{Book, Claimed, Done, turns_bring_home};
 use std::alloc::Global;

@@ -4,7 +4,7 @@ ghost use Rattle.std.specs.Prelude.{◌≡◌, List};
 ghost use Rattle.round_core.specs.declared.event.Event.{Event as AnEvent};
 ghost use Rattle.worker_rounds.specs.Turns.{FinishesAlone};
 
-use chip_law::Chip;
+use chip_analysis::Chip;
 use round_core::first_is_one;
 
 /// An analysis has one journal of turns that finishes its book, so whatever one worker's journal leads to is a function of

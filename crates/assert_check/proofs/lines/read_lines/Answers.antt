@@ -1,6 +1,6 @@
 use Rattle.std.proofs.Common.{[], Ok, ap, sym, ◌∙◌, append-nil, arith}
 use Rattle.std.proofs.lemmas.Result.{err_from_is_err_and}
-use Rattle.ihex_read.specs.Lines.{lines_of, without_return}
+use Rattle.text_lines.specs.Lines.{lines_of, without_return}
 use Rattle.assert_check.specs.Lines.{assertions_of}
 use Rattle.assert_check.proofs.TextLemmas.{by_last, by_next, tells_text}
 use Rattle.assert_check.proofs.lines.read_lines.Goals as goal

@@ -1,5 +1,5 @@
 use Rattle.std.proofs.Common.{◌≡◌, ◌≤◌, ◌+◌, length}
-use Rattle.ihex_read.specs.Lines.{lines_of}
+use Rattle.text_lines.specs.Lines.{lines_of}
 use Rattle.assert_check.specs.Lines.{assertions_behind, assertions_of, with_front}
 use Rattle.assert_check.proofs.lines.read_lines.Given as goal
 

@@ -5,15 +5,15 @@ use Rattle.mcs51_chip.proofs.law.the_table_decides.Goals as goal
 
 pub returns-clause-runs : goal.returns-clause-runs
 returns-clause-runs c = λ image s choices left instr len whole bytes none there. instruction_runs image s choices left (Ok (instr, len)) none
-    (sym (c.decoded_is_the_answer.ensures.one image s.pc (Ok (instr, len)) whole bytes there))
+    (sym (c.decoding_laws.ensures.one image s.pc (Ok (instr, len)) whole bytes there))
 
 pub returns-clause-lacks : goal.returns-clause-lacks
 returns-clause-lacks c = λ image s choices left at whole bytes none there. instruction_runs image s choices left (Err (OffImage at)) none
-    (sym (c.decoded_is_the_answer.ensures.one image s.pc (Err (OffImage at)) whole bytes there))
+    (sym (c.decoding_laws.ensures.one image s.pc (Err (OffImage at)) whole bytes there))
 
 pub returns-clause-excluded : goal.returns-clause-excluded
 returns-clause-excluded c = λ image s choices left whole bytes none there. instruction_runs image s choices left (Err Excluded) none
-    (sym (c.decoded_is_the_answer.ensures.one image s.pc (Err Excluded) whole bytes there))
+    (sym (c.decoding_laws.ensures.one image s.pc (Err Excluded) whole bytes there))
 
 pub returns-clause-enters : goal.returns-clause-enters
 returns-clause-enters c = entry_comes

@@ -5,7 +5,7 @@ use Rattle.msp430_alu.proofs.laws.singles_hold.Goals as goal
 
 pub returns : goal.returns
 returns c =
-    let laws = c.premises_hold.ensures in
+    let laws = c.instruction_laws.ensures in
     record {
       left = single_law laws;
       shown = single_shown laws;

@@ -6,7 +6,7 @@ use Rattle.msp430_alu.proofs.laws.words_in_memory.Goals as goal
 
 pub returns : goal.returns
 returns c =
-    let laws = c.premises_hold.ensures in
+    let laws = c.instruction_laws.ensures in
     record {
       located = word_located laws;
       stored = word_stored laws;

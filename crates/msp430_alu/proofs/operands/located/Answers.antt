@@ -9,11 +9,11 @@ returns-in-Word-clause-fits c = λ v h.
     let device = c.args.device.now in
     let set = c.args.set.now in
     let same = c.canonical.ensures ∙ ap (canonical device) c.even_parts.ensures ∙ sym (ap (λ width. located device width set) c.in-Word.is) in
-    located_fits c.premises_hold.ensures device c.requires c.args.width set v c.form-form.ensures.normal (subst (λ f. Has 65536 f v) same h)
+    located_fits c.instruction_laws.ensures device c.requires c.args.width set v c.form-form.ensures.normal (subst (λ f. Has 65536 f v) same h)
 
 pub returns-in-Byte-clause-fits : goal.returns-in-Byte-clause-fits
 returns-in-Byte-clause-fits c = λ v h.
     let device = c.args.device.now in
     let set = c.args.set.now in
     let same = c.canonical-in-Byte.ensures ∙ sym (ap (λ width. located device width set) c.in-Byte.is) in
-    located_fits c.premises_hold.ensures device c.requires c.args.width set v c.form-form.ensures.normal (subst (λ f. Has 65536 f v) same h)
+    located_fits c.instruction_laws.ensures device c.requires c.args.width set v c.form-form.ensures.normal (subst (λ f. Has 65536 f v) same h)

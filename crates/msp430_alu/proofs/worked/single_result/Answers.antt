@@ -7,4 +7,4 @@ use Rattle.msp430_alu.proofs.worked.single_result.Goals as goal
 pub returns-clause-byte : goal.returns-clause-byte
 returns-clause-byte c = λ e.
     subst (λ (word : Word). (v : ℕ) → Has 65536 word.set v → v < 256) (sym c.single_made.ensures.word)
-    (single_byte c.premises_hold.ensures c.args.operation c.args.width c.args.operand.now c.args.carry None c.requires c.keeps_form.ensures e)
+    (single_byte c.instruction_laws.ensures c.args.operation c.args.width c.args.operand.now c.args.carry None c.requires c.keeps_form.ensures e)

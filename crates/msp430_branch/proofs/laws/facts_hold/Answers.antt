@@ -3,8 +3,8 @@ use Rattle.msp430_branch.proofs.laws.facts_hold.Goals as goal
 
 pub returns : goal.returns
 returns c =
-    let kinds = c.registers_of_five_kinds.ensures in
+    let places = c.place_laws.ensures in
     record {
-      holds = fact_holds c.known_laws.ensures kinds;
-      form = fact_form kinds;
+      holds = fact_holds c.known_laws.ensures places;
+      form = fact_form places;
     }

@@ -7,7 +7,7 @@ returns c =
     let laws : StatusLaws = record {
       known = c.known_laws.ensures;
       doubles = c.doubles_hold.ensures;
-      kinds = c.registers_of_five_kinds.ensures;
+      places = c.place_laws.ensures;
     } in
     record {
       left = status_law laws;

@@ -1,6 +1,5 @@
 use Rattle.std.specs.Prelude.{map}
 use Rattle.item_lines.specs.Line.{item_line_of, open_line_of}
-use Rattle.report_text.specs.Report.{bytes_of}
 use Rattle.report_text.proofs.ReportLemmas.{told_lines}
 use Rattle.report_text.proofs.report.tell.Goals as goal
 
@@ -8,7 +7,7 @@ pub returns-clause-lines : goal.returns-clause-lines
 returns-clause-lines g c =
     let items = rw c.as_slice.ensures at c.in_ok-add_items.ensures in
     let opens = rw c.as_slice-2.ensures at c.in_ok-add_opens.ensures in
-    told_lines c.args.is_live (bytes_of c.args.told.now.lines.keys)
+    told_lines c.args.is_live c.args.told.now.lines
     (map (item_line_of (g.C.InstrText.text_of c.args.chip.now)) c.args.work.now.items)
     (map (λ o. open_line_of o.0 o.1) c.args.work.now.opens)
-    (bytes_of c.add_items.new.lines.keys) (bytes_of c.add_opens.new.lines.keys) c.if-not-is_live.false items opens
+    c.add_items.new.lines c.add_opens.new.lines c.if-not-is_live.false items opens

@@ -3,7 +3,7 @@ use Rattle.std.specs.List.{flat_map}
 use Rattle.round_core.specs.Kept.{is_live, live_works}
 use Rattle.round_core.specs.Machine.{replay}
 use Rattle.report_text.specs.Deepest.{deepest_of}
-use Rattle.report_text.specs.Report.{bytes_of, with_lines, lines_of, are_closed}
+use Rattle.report_text.specs.Report.{with_lines, lines_of, are_closed}
 use Rattle.report_text.proofs.ReportLemmas.{first_left, passing, passing-cons, lines_more, closed_more, deepest_more}
 use Rattle.report_text.proofs.report.tell_all.Goals as goal
 
@@ -19,8 +19,8 @@ loop-unit-preserved g c =
     let rest = passing (is_live b.done) (drop (i + 1) pairs) in
     let left = ap (passing (is_live b.done)) first ∙ passing-cons (is_live b.done) pair (drop (i + 1) pairs) live (sym c.is_live-is_live.ensures) in
     record {
-      lines = lines_more (lines_of text) live pair.1 rest (bytes_of c.loop-unit.told.lines.keys) (bytes_of c.tell.new.told.lines.keys) (with_lines [] (flat_map (lines_of text) (live_works b))) c.in_ok-tell.ensures.lines
-          (subst (λ works. with_lines (bytes_of c.loop-unit.told.lines.keys) (flat_map (lines_of text) works) ≡ with_lines [] (flat_map (lines_of text) (live_works b))) left c.loop-unit.invariant.lines);
+      lines = lines_more (lines_of text) live pair.1 rest c.loop-unit.told.lines c.tell.new.told.lines (with_lines [] (flat_map (lines_of text) (live_works b))) c.in_ok-tell.ensures.lines
+          (subst (λ works. with_lines c.loop-unit.told.lines (flat_map (lines_of text) works) ≡ with_lines [] (flat_map (lines_of text) (live_works b))) left c.loop-unit.invariant.lines);
       closed = closed_more live pair.1 rest c.loop-unit.told.is_closed c.tell.new.told.is_closed (are_closed (live_works b)) c.in_ok-tell.ensures.closed
           (subst (λ works. (c.loop-unit.told.is_closed && are_closed works) ≡ are_closed (live_works b)) left c.loop-unit.invariant.closed);
       deepest = deepest_more live pair.1 rest c.loop-unit.told.deepest c.tell.new.told.deepest (deepest_of None (flat_map (λ work. work.items) (live_works b))) c.in_ok-tell.ensures.deepest

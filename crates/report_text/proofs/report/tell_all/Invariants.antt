@@ -4,7 +4,7 @@ use Rattle.std.specs.List.{flat_map}
 use Rattle.round_core.specs.Kept.{is_live, live_works}
 use Rattle.round_core.specs.Machine.{replay}
 use Rattle.report_text.specs.Deepest.{deepest_of}
-use Rattle.report_text.specs.Report.{with_lines, bytes_of, lines_of, are_closed}
+use Rattle.report_text.specs.Report.{with_lines, lines_of, are_closed}
 use Rattle.report_text.proofs.report.tell_all.Given as goal
 
 -- what is told and what is left to tell are all that is to be told
@@ -14,7 +14,7 @@ invariant-loop-unit g l = let b = replay (g.C.Chip.analysis l.book.base) l.book.
     let all = live_works b in
     let text = g.C.InstrText.text_of l.chip in
     record {
-      lines : with_lines (bytes_of l.told.lines.keys) (flat_map (lines_of text) left) ≡ with_lines [] (flat_map (lines_of text) all);
+      lines : with_lines l.told.lines (flat_map (lines_of text) left) ≡ with_lines [] (flat_map (lines_of text) all);
       closed : (l.told.is_closed && are_closed left) ≡ are_closed all;
       deepest : deepest_of l.told.deepest (flat_map (λ work. work.items) left) ≡ deepest_of None (flat_map (λ work. work.items) all);
     }

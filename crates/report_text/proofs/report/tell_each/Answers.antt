@@ -2,7 +2,7 @@ use Rattle.std.proofs.Common.{◌≡◌, [], ◌&&◌, ◌+◌, true, None, drop
 use Rattle.std.specs.List.{flat_map}
 use Rattle.std.specs.Map.{values_of}
 use Rattle.report_text.specs.Deepest.{deepest_of}
-use Rattle.report_text.specs.Report.{bytes_of, with_lines, lines_of, are_closed}
+use Rattle.report_text.specs.Report.{with_lines, lines_of, are_closed}
 use Rattle.report_text.proofs.ReportLemmas.{first_left, lines_more, closed_more, deepest_more}
 use Rattle.report_text.proofs.report.tell_each.Goals as goal
 
@@ -16,9 +16,9 @@ loop-work-preserved g c =
     let all = values_of pairs in
     let left = ap values_of (first_left i pairs pair c.loop-work-test.true c.loop-work-item.is) in
     record {
-      lines = lines_more (lines_of text) true pair.1 rest (bytes_of c.loop-work.told.lines.keys) (bytes_of c.tell.new.told.lines.keys)
+      lines = lines_more (lines_of text) true pair.1 rest c.loop-work.told.lines c.tell.new.told.lines
           (with_lines [] (flat_map (lines_of text) all)) c.in_ok-tell.ensures.lines
-          (subst (λ works. with_lines (bytes_of c.loop-work.told.lines.keys) (flat_map (lines_of text) works) ≡ with_lines []
+          (subst (λ works. with_lines c.loop-work.told.lines (flat_map (lines_of text) works) ≡ with_lines []
           (flat_map (lines_of text) all)) left c.loop-work.invariant.lines);
       closed = closed_more true pair.1 rest c.loop-work.told.is_closed c.tell.new.told.is_closed (are_closed all) c.in_ok-tell.ensures.closed
           (subst (λ works. (c.loop-work.told.is_closed && are_closed works) ≡ are_closed all) left c.loop-work.invariant.closed);

@@ -2,7 +2,7 @@ use Rattle.std.proofs.Common.{◌≡◌, ◌&&◌, [], None, drop}
 use Rattle.std.specs.List.{flat_map}
 use Rattle.std.specs.Map.{values_of}
 use Rattle.report_text.specs.Deepest.{deepest_of}
-use Rattle.report_text.specs.Report.{with_lines, bytes_of, lines_of, are_closed}
+use Rattle.report_text.specs.Report.{with_lines, lines_of, are_closed}
 use Rattle.report_text.proofs.report.tell_each.Given as goal
 
 -- what is told and what is left to tell are all that is to be told
@@ -11,7 +11,7 @@ invariant-loop-work g l = let left = values_of (drop l.work-index l.works) in
     let all = values_of l.works in
     let text = g.C.InstrText.text_of l.chip in
     record {
-      lines : with_lines (bytes_of l.told.lines.keys) (flat_map (lines_of text) left) ≡ with_lines [] (flat_map (lines_of text) all);
+      lines : with_lines l.told.lines (flat_map (lines_of text) left) ≡ with_lines [] (flat_map (lines_of text) all);
       closed : (l.told.is_closed && are_closed left) ≡ are_closed all;
       deepest : deepest_of l.told.deepest (flat_map (λ work. work.items) left) ≡ deepest_of None (flat_map (λ work. work.items) all);
     }

@@ -1,6 +1,6 @@
 use Rattle.std.proofs.Common.{◌≡◌, List, map, length}
 use Rattle.call_context.specs.declared.node.Unit.{Unit as WorkUnit}
-use Rattle.chip_law.specs.declared.chip.Work.{Work}
+use Rattle.chip_analysis.specs.declared.chip.Work.{Work}
 use Rattle.round_core.specs.declared.versions.Versions.{Versions}
 use Rattle.round_core.specs.Former.{marked}
 use Rattle.round_core.specs.Kept.{is_live}

@@ -5,7 +5,7 @@ use Rattle.round_core.proofs.ReplayLaws.{AllStay-replay, IsSteady-replay, replay
 use Rattle.round_core.specs.Machine.{replay}
 use Rattle.round_core.specs.Stays.{AllStay}
 use Rattle.round_core.specs.declared.event.Event.{Event}
-use Rattle.chip_law.specs.Analysis.{Analysis}
+use Rattle.chip_analysis.specs.Analysis.{Analysis}
 use Rattle.std.specs.Prelude.{List, ◌++◌}
 use Rattle.round_core.proofs.laws.nodes_stay.Goals as goal
 

@@ -50,5 +50,5 @@ returns-in_ok-report-in-Err g c =
     (λ closed. cc (c.in-Err.ensures.exact.1 closed))
     (c.closed_books_are_told.ensures book.base book.journal is.legal is.finished).0
     (subst (λ (k : Kept _). IsReportOf text_of (replay (g.C.Chip.analysis k.base) k.journal) report.text.items report.is_closed) same
-    c.in_ok-report-in-Err.ensures)
+    c.in_ok-report-in-Err.ensures.report)
     (c.into_parts-journal.ensures.journal ∙ ap (λ (k : Kept _). k.journal) same)))

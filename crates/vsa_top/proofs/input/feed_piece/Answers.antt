@@ -1,5 +1,5 @@
 use Rattle.std.proofs.Common.{◌≡◌, ℕ, List, ◌++◌, ◌∙◌, sym, arith}
-use Rattle.ihex_read.specs.declared.tail.Tail.TheVariants.{Second}
+use Rattle.image.specs.declared.tail.Tail.TheVariants.{Second}
 use Rattle.ihex_read.specs.Reading.{HasEnded}
 use Rattle.vsa_top.specs.Input.{LacksImage, input_error_of}
 use Rattle.vsa_top.proofs.InputLemmas.{IfErr-is, bad_piece, long_piece, none_begun, ended_there, used_all, more_behind, unended}

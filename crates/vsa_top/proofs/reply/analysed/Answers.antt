@@ -17,7 +17,7 @@ returns-clause-reply g c = λ workers made.
     let is : IsAnalysis m workers book.journal = made in
     let bounded = c.books_are_bounded.ensures base book.journal c.is_program.ensures is.legal in
     let reported : IsReportOf text_of (replay m book.journal) report.text.items report.is_closed =
-    subst (λ b. IsReportOf text_of (replay (g.C.Chip.analysis b) book.journal) report.text.items report.is_closed) c.requires.base c.in_ok-report.ensures in
+    subst (λ b. IsReportOf text_of (replay (g.C.Chip.analysis b) book.journal) report.text.items report.is_closed) c.requires.base c.in_ok-report.ensures.report in
     subst (λ t. IsReported text_of m texts workers c.args.cert c.status_of.result t c.into_parts-journal.result.2.items) (sym c.from_bytes.ensures)
     (subst (λ j. IsReported text_of m texts workers c.args.cert c.status_of.result text j) (sym c.into_parts-journal.ensures.journal)
     (reported_by text_of m texts workers c.args.cert book.journal report.text.items text report.is_closed c.status_of.result is bounded reported

@@ -1,7 +1,7 @@
 use Rattle.std.proofs.Common.{sym, subst, ◌∙◌}
 use Rattle.std.specs.Prelude.{IfSome}
 use Rattle.image.specs.declared.rule_set.Rules.{Rules}
-use Rattle.ihex_read.specs.declared.tail.Tail.{Tail}
+use Rattle.image.specs.declared.tail.Tail.{Tail}
 use Rattle.vsa_top.specs.Answer.{IsImageReply, IsReply}
 use Rattle.vsa_top.specs.Answer.IsReply.{of_image, of_bad}
 use Rattle.vsa_top.specs.Input.{InputGives, LacksImage, begun_with}

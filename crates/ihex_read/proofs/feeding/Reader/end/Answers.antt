@@ -1,7 +1,7 @@
 use Rattle.std.proofs.Common.{◌≡◌, ◌<◌, length, sym, ◌∙◌, arith}
 use Rattle.std.proofs.lemmas.Bool.Decides.{nat_tests}
 use Rattle.std.proofs.lemmas.List.{length-map}
-use Rattle.ihex_read.specs.Lines.{without_return, lines_of}
+use Rattle.text_lines.specs.Lines.{without_return, lines_of}
 use Rattle.ihex_read.proofs.KeptLemmas.{answer_kept}
 use Rattle.ihex_read.proofs.ReaderLemmas.{count_lines, read_small, end_feed, end_line, end_goes_on, end_bad, end_count}
 use Rattle.ihex_read.proofs.feeding.Reader.end.Goals as goal

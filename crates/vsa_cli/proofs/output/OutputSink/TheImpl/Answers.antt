@@ -1,5 +1,5 @@
 use Rattle.std.proofs.Common.{rules}
-use Rattle.vsa_io.specs.Untold.{untold_ok, untold_err}
+use Rattle.streams.specs.Untold.{untold_ok, untold_err}
 use Rattle.vsa_cli.proofs.output.OutputSink.TheImpl.Goals as goal
 
 pub write-tells : goal.write-tells

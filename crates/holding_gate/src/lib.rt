@@ -1,0 +1,6 @@
+//! For rows of workers: a gate that two workers pass only where they work at once.
+#![tactic(auto)]
+
+mod gate;
+
+pub use gate::HoldingGate;

@@ -1,4 +1,0 @@
-use Rattle.mcs51_jumps.proofs.laws.premises_hold.Goals as goal
-
-pub returns : goal.returns
-returns c = assumption c

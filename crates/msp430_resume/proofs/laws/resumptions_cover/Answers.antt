@@ -1,7 +1,0 @@
-use Rattle.msp430_resume.proofs.Covering.{covers, has_pointer, in_form}
-use Rattle.msp430_resume.proofs.laws.resumptions_cover.Goals as goal
-
-pub returns : goal.returns
-returns c =
-    let laws = c.memory_laws.ensures in
-    assumption (covers laws, has_pointer, in_form laws)

@@ -1,0 +1,4 @@
+pub mod Count
+pub mod Pieces
+pub mod Stream
+pub mod Untold
