@@ -17,7 +17,7 @@
 #![tactic(auto)]
 
 mod rows;
-mod streams;
+mod ways;
 mod workers;
 
 use crate::rows::Rows;

@@ -2,7 +2,7 @@
 
 ghost use Rattle.std.specs.Prelude.{◌<◌};
 
-use crate::streams::{ROOM, Way};
+use crate::ways::{ROOM, Way};
 use crate::workers::work_at_once;
 use disassembly::disassembly_of;
 use row_parts::{add_line, image_of, text_of, words_of};

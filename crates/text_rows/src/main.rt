@@ -34,11 +34,11 @@
 
 mod images;
 mod lists;
+mod memory_streams;
 mod numbers;
 mod reports;
 mod rows;
 mod scripts;
-mod streams;
 mod texts;
 mod ways;
 

@@ -5,7 +5,7 @@ use crate::lists::push_list;
 use crate::numbers::{halves, word_of};
 use crate::reports::{push_report, push_stack};
 use crate::scripts::{push_feeds, push_script};
-use crate::streams::{push_reads, push_writes};
+use crate::memory_streams::{push_reads, push_writes};
 use crate::texts::push_text;
 use crate::ways::push_ways;
 use image::Image;
