@@ -2,10 +2,10 @@
 
 use crate::images::{push_front, push_image, push_pieces};
 use crate::lists::push_list;
+use crate::memory_streams::{push_reads, push_writes};
 use crate::numbers::{halves, word_of};
 use crate::reports::{push_report, push_stack};
 use crate::scripts::{push_feeds, push_script};
-use crate::memory_streams::{push_reads, push_writes};
 use crate::texts::push_text;
 use crate::ways::push_ways;
 use image::Image;

@@ -1,7 +1,7 @@
 //! Made programs, and texts that are built part by part.
 
-use crate::numbers::{count_of, halves, push_bytes};
 use crate::memory_streams::failing;
+use crate::numbers::{count_of, halves, push_bytes};
 use dense_text::{Text, TextBuilder};
 use image_gen::{ChipName, MOST, make};
 use no_memory::Memory;
