@@ -16,7 +16,7 @@ use Rattle.mcs51_entry.specs.Entering.{entered_known, entry_accesses}
 
 -- Each interrupt that comes in a single state is listed. The state that its handler begins with stands under what `entered_known`
 -- says, over the state that it suspends, and its pushes are shown. What is said is in form, and so is the frame.
-pub record EntryLaws : Type 0 where
+pub record InterruptLaws : Type 0 where
   pub comes : (framed : Bool) (a : Known) (s : ChipState) (first : Option ChipState) (source : ℕ)
       → IsUnder framed a s first → Contains (coming s) source
       → (coming_so : Coming) × (coming_so.source ≡ source) × ComesSo a s coming_so

@@ -7,7 +7,7 @@
 //!   is suspended; cells keep their sets alone, and the pushed bytes are the touched ones.
 //! - [`add_entry_items`]: what an entry shows.
 //!
-//! Each is exact by `specs/Coming.antt` and `specs/Entering.antt`. [`entry_laws`] says what holds of them: each interrupt
+//! Each is exact by `specs/Coming.antt` and `specs/Entering.antt`. [`interrupt_laws`] says what holds of them: each interrupt
 //! that comes is listed, the state that the handler begins with stands under what `entered_known` says, over the suspended
 //! one, and the pushes are shown.
 #![tactic(auto)]
@@ -18,4 +18,4 @@ mod laws;
 
 pub use coming::{Coming, comings, frame_of, handler_of};
 pub use entering::{add_entry_items, entered};
-pub use laws::entry_laws;
+pub use laws::interrupt_laws;

@@ -5,7 +5,7 @@ use Rattle.mcs51_decode.specs.Laws.{DecodingLaws}
 use Rattle.mcs51_chip.specs.Laws.{StepLaws}
 use Rattle.mcs51_state.specs.Known.{Known}
 use Rattle.mcs51_state.specs.Laws.{StateLaws}
-use Rattle.mcs51_entry.specs.Laws.{EntryLaws}
+use Rattle.mcs51_entry.specs.Laws.{InterruptLaws}
 use Rattle.mcs51_control.specs.Laws.{ReturnLaws}
 use Rattle.mcs51_resume.specs.Laws.{ResumptionLaws}
 use Rattle.mcs51_flow.specs.Laws.{RunLaws}
@@ -16,7 +16,7 @@ pub record Laws : Type 0 where
   pub decoding : DecodingLaws
   pub steps : StepLaws
   pub states : StateLaws
-  pub entries : EntryLaws
+  pub entries : InterruptLaws
   pub returns : ReturnLaws
   pub resumptions : ResumptionLaws
   pub instructions : RunLaws

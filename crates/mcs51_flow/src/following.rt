@@ -15,7 +15,9 @@ use chip_analysis::Work;
 use chip_flow::{CallEffect, Flow, Followed, Onward, add_handler};
 use mcs51_control::goes_back;
 use mcs51_decode::{Instr, encode};
-use mcs51_entry::{Coming, add_entry_items, comings, entered, entry_laws, frame_of, handler_of};
+use mcs51_entry::{
+    Coming, add_entry_items, comings, entered, frame_of, handler_of, interrupt_laws,
+};
 use mcs51_resume::resume;
 use no_memory::Memory;
 use std::alloc::Global;
@@ -137,7 +139,7 @@ impl Flow for Mcs51Chip {
         at: &Abs,
         coming: &Coming,
     ) -> Result<(), Memory> {
-        entry_laws();
+        interrupt_laws();
         add_entry_items(&mut work.items, pc, coming)?;
         let known = entered(alloc, at, pc, coming)?;
         add_handler(

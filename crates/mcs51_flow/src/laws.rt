@@ -13,7 +13,7 @@ use mcs51_alu::{accumulators_do, accumulators_hold};
 use mcs51_chip::{ChipState, step_laws};
 use mcs51_control::{return_laws, transfers_do};
 use mcs51_decode::decoding_laws;
-use mcs51_entry::entry_laws;
+use mcs51_entry::interrupt_laws;
 use mcs51_jumps::{bits_do, bits_keep_form, jumps_do, jumps_keep_form};
 use mcs51_memories::{memories_do, memories_keep_form};
 use mcs51_moves::{moves_do, moves_keep_form};
@@ -66,7 +66,7 @@ impl LawfulChip for Mcs51Chip {
         decoding_laws();
         step_laws();
         state_laws();
-        entry_laws();
+        interrupt_laws();
         return_laws();
         resumption_laws();
         instructions_do();

@@ -20,7 +20,7 @@ use Rattle.std.specs.Prelude.{Bool, Contains, List, Option, Some, [], true, ℕ,
 -- Each interrupt that comes in a single state is listed. The state that its handler begins with stands under what `entered_known`
 -- says, over the state that it suspends. Each push and the edge are shown, and a push that hits the program is at one of the
 -- addresses of its slot. What is said is in form.
-pub record EntryLaws : Type 0 where
+pub record InterruptLaws : Type 0 where
   pub comes : (device : Device) (framed : Bool) (a : Known) (s : ChipState) (first : Option ChipState) (vector : ℕ)
       → IsUnder device framed a s first → Contains (coming device s) vector
       → (coming_so : Coming) × (coming_so.vector ≡ vector) × ComesSo device a s coming_so

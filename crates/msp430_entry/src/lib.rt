@@ -6,7 +6,7 @@
 //!   state that is suspended; cells keep their sets alone, and the pushed bytes are the touched ones.
 //! - [`counter_slot`] and [`status_slot`]: where PC and SR are pushed, and [`add_entry_items`]: what an entry shows.
 //!
-//! Each is exact by `specs/Entry.antt`. [`entry_laws`] says what holds of them: each interrupt that comes is listed, the
+//! Each is exact by `specs/Entry.antt`. [`interrupt_laws`] says what holds of them: each interrupt that comes is listed, the
 //! state that the handler begins with stands under what `entered_known` says, over the suspended one, what the entry does is
 //! shown, and a push that hits the program is at one of the addresses of the two slots.
 #![tactic(auto)]
@@ -19,5 +19,5 @@ mod showing;
 
 pub use coming::{Coming, comings, frame_of, handler_of};
 pub use entering::{counter_slot, entered, status_slot};
-pub use laws::entry_laws;
+pub use laws::interrupt_laws;
 pub use showing::add_entry_items;

@@ -7,7 +7,7 @@ use Rattle.msp430_state.specs.Known.{Known}
 use Rattle.msp430_state.specs.Laws.{StateLaws}
 use Rattle.msp430_alu.specs.Laws.{DoublesHold, PushesHold, SinglesHold}
 use Rattle.msp430_status.specs.Laws.{SingleStatusesHold, StatusesHold}
-use Rattle.msp430_entry.specs.Laws.{EntryLaws}
+use Rattle.msp430_entry.specs.Laws.{InterruptLaws}
 use Rattle.msp430_return.specs.Laws.{ReturnLaws}
 use Rattle.msp430_resume.specs.Laws.{ResumptionLaws}
 use Rattle.msp430_branch.specs.Laws.{CutsHold, FactsHold}
@@ -20,7 +20,7 @@ pub record Laws : Type 0 where
   pub pushes : PushesHold
   pub statuses : StatusesHold
   pub single_statuses : SingleStatusesHold
-  pub entries : EntryLaws
+  pub entries : InterruptLaws
   pub returns : ReturnLaws
   pub resumptions : ResumptionLaws
   pub cuts : CutsHold

@@ -17,7 +17,9 @@ use chip_flow::{CallEffect, Flow, Followed, Onward, add_handler};
 use msp430_alu::Worked;
 use msp430_branch::cut;
 use msp430_decode::{Condition, Instr, encode, offset_target};
-use msp430_entry::{Coming, add_entry_items, comings, entered, entry_laws, frame_of, handler_of};
+use msp430_entry::{
+    Coming, add_entry_items, comings, entered, frame_of, handler_of, interrupt_laws,
+};
 use msp430_resume::resume;
 use msp430_state::FlagFact;
 use no_memory::Memory;
@@ -205,7 +207,7 @@ impl Flow for Msp430Chip {
         coming: &Coming,
     ) -> Result<(), Memory> {
         self.keeps_rules();
-        entry_laws();
+        interrupt_laws();
         let device = self.device();
         add_entry_items(&mut work.items, device, pc, coming)?;
         add_push_opens(&mut work.opens, device, pc, coming)?;

@@ -12,7 +12,7 @@ use msp430_alu::{doubles_hold, pushes_hold, singles_hold};
 use msp430_branch::{cuts_hold, facts_hold};
 use msp430_chip::{ChipState, step_laws};
 use msp430_decode::decoding_laws;
-use msp430_entry::entry_laws;
+use msp430_entry::interrupt_laws;
 use msp430_resume::resumption_laws;
 use msp430_return::return_laws;
 use msp430_state::state_laws;
@@ -44,7 +44,7 @@ impl LawfulChip for Msp430Chip {
         pushes_hold();
         statuses_hold();
         single_statuses_hold();
-        entry_laws();
+        interrupt_laws();
         return_laws();
         resumption_laws();
         cuts_hold();

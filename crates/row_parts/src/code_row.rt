@@ -1,7 +1,8 @@
 //! Rows that begin with code.
 
-ghost use Rattle.std.specs.Prelude.{◌≡◌, IfOk, length};
+ghost use Rattle.std.specs.Prelude.{◌≡◌, length};
 
+use crate::placing::nothing;
 use hex_digits::{byte, word};
 use image::Image;
 use std::alloc::{AllocError, Global};
@@ -15,13 +16,6 @@ pub struct CodeRow<'a> {
     pub image: Image,
     /// What stands behind them.
     pub rest: &'a str,
-}
-
-/// Nothing at all addresses.
-fn nothing(alloc: Global) -> Result<Vec<Option<u8>>, AllocError>
-    ensures { IfOk result (λ places. length places.items ≡ 65536) }
-{
-    vec![in alloc; None; 65536]
 }
 
 /// Places the bytes of digits from an address on, adds them to a list, and says whether these are digits.

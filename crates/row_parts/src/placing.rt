@@ -7,7 +7,7 @@ use image::Image;
 use std::alloc::{AllocError, Global};
 
 /// Nothing at all addresses.
-fn nothing(alloc: Global) -> Result<Vec<Option<u8>>, AllocError>
+pub(crate) fn nothing(alloc: Global) -> Result<Vec<Option<u8>>, AllocError>
     ensures { IfOk result (λ places. length places.items ≡ 65536) }
 {
     vec![in alloc; None; 65536]

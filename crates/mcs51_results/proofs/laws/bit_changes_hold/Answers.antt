@@ -1,6 +1,3 @@
-use Rattle.mcs51_results.specs.Results.{carry_in}
-use Rattle.mcs51_results.specs.StatusBytes.{carry_changed, carry_joined}
-use Rattle.mcs51_results.proofs.StatusLemmas.{carried_form}
 use Rattle.mcs51_results.proofs.BitWrites.{carry_holds, carry_bit_holds, byte_bit_holds, byte_bit_form, bit_known, status_bit_holds, status_bit_form, status_bit_known}
 use Rattle.mcs51_results.proofs.laws.bit_changes_hold.Goals as goal
 

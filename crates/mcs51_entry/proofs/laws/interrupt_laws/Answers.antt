@@ -1,6 +1,6 @@
 use Rattle.mcs51_entry.proofs.ComingLemmas.{comes, frame_so, source_below}
 use Rattle.mcs51_entry.proofs.EntryLemmas.{covered, entered_form, shown}
-use Rattle.mcs51_entry.proofs.laws.entry_laws.Goals as goal
+use Rattle.mcs51_entry.proofs.laws.interrupt_laws.Goals as goal
 
 pub returns : goal.returns
 returns c =

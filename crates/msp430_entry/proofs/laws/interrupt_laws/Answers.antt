@@ -1,7 +1,7 @@
 use Rattle.msp430_entry.proofs.ComingLemmas.{comes, frame_so, handler_even, vector_below}
 use Rattle.msp430_entry.proofs.EntryLemmas.{covered, entered_form}
 use Rattle.msp430_entry.proofs.ShowingLemmas.{hit, shown}
-use Rattle.msp430_entry.proofs.laws.entry_laws.Goals as goal
+use Rattle.msp430_entry.proofs.laws.interrupt_laws.Goals as goal
 
 pub returns : goal.returns
 returns c =
