@@ -11,22 +11,42 @@ use round_core::{Book, Claimed, Done, Event};
 use std::alloc::Global;
 use std::test::Fail;
 
+/// Claims a unit, works and posts. False says that there was none.
+fn take_turn<C: Chip>(alloc: Global, chip: &C, book: &mut Book<C>) -> Result<bool, Memory>
+    requires { C.base chip.now ≡ book.old.base }
+    ensures { book.new.base ≡ book.old.base }
+{
+    match book.claim(chip, 0)? {
+        Claimed::Ticket(ticket) => {
+            let work = chip.work(alloc, ticket.unit(), ticket.at(), ticket.exit())?;
+            match book.post(chip, Done { ticket, work }) {
+                Ok(()) => Ok(true),
+                Err((memory, _)) => Err(memory),
+            }
+        }
+        Claimed::Idle | Claimed::Finished => Ok(false),
+    }
+}
+
+/// Takes turns until none has a unit, or a number of them.
+fn take_turns<C: Chip>(alloc: Global, chip: &C, book: &mut Book<C>, most: u64) -> Result<(), Memory>
+    requires { C.base chip.now ≡ book.old.base }
+    ensures { book.new.base ≡ book.old.base }
+{
+    for _ in 0..most {
+        if !take_turn(alloc, chip, book)? {
+            return Ok(());
+        }
+    }
+    Ok(())
+}
+
 /// Claims, works and posts until the book is finished, or for a number of turns.
 pub(crate) fn run_for<C: Chip>(alloc: Global, chip: &C, most: u64) -> Result<Book<C>, Memory>
     ensures { IfOk result (λ book. C.base chip.now ≡ book.base) }
 {
     let mut book = Book::open(alloc, chip)?;
-    for _ in 0..most {
-        match book.claim(chip, 0)? {
-            Claimed::Ticket(ticket) => {
-                let work = chip.work(alloc, ticket.unit(), ticket.at(), ticket.exit())?;
-                if let Err((memory, _)) = book.post(chip, Done { ticket, work }) {
-                    return Err(memory);
-                }
-            }
-            Claimed::Idle | Claimed::Finished => return Ok(book),
-        }
-    }
+    take_turns(alloc, chip, &mut book, most)?;
     Ok(book)
 }
 
@@ -134,6 +154,22 @@ fn claim_one<C: Chip>(book: &mut Book<C>, chip: &C, seat: u32, keeps: bool) -> R
     }
 }
 
+/// Lets seats claim, of which some keep their unit, and adds what is told behind each claim.
+fn claim_all<C: Chip>(
+    book: &mut Book<C>,
+    chip: &C,
+    seats: &[(u32, bool)],
+    told: &mut Vec<Told>,
+) -> Result<(), Memory>
+    requires { C.base chip.now ≡ book.old.base }
+{
+    for (seat, keeps) in seats {
+        let found = claim_one(book, chip, *seat, *keeps)?;
+        told.push(told_of(book, found))?;
+    }
+    Ok(())
+}
+
 /// Goes on for a number of turns, and then lets seats claim, of which some keep their unit. It answers what was told in front of the
 /// claims and behind each, and whether the journal is this one.
 fn claim_each<C: Chip>(
@@ -144,13 +180,12 @@ fn claim_each<C: Chip>(
     events: &[Event],
 ) -> Result<(Vec<Told>, bool), Memory> {
     let mut book = run_for(alloc, chip, turns)?;
-    let mut told = Vec::new(alloc);
-    told.push(told_of(&book, false))?;
-    for (seat, keeps) in seats {
-        let found = claim_one(&mut book, chip, *seat, *keeps)?;
-        told.push(told_of(&book, found))?;
-    }
-    Ok((told, book.journal() == events))
+    let mut told = vec![in alloc; told_of(&book, false); 1]?;
+    let claimed = claim_all(&mut book, chip, seats, &mut told);
+    let same = book.journal() == events;
+    drop(book);
+    claimed?;
+    Ok((told, same))
 }
 
 fn unit_at(pc: u16) -> Unit {

@@ -105,12 +105,17 @@ fn frames_and_handlers(rt: HostRuntime) -> Result<(), Fail> {
     Ok(())
 }
 
+/// What the handler of an interrupt at F004h begins with.
+fn handler_state(alloc: Global) -> Result<State<CellList>, Fail> {
+    let device = device(alloc)?;
+    let state = state(alloc)?;
+    Ok(entered(alloc, &device, &state, 0xF004, &one(0x0280))?)
+}
+
 /// As in the manual: PC is pushed first, then SR, and all of SR but SCG0 is cleared.
 #[test]
 fn what_the_handler_knows(rt: HostRuntime) -> Result<(), Fail> {
-    let device = device(rt.alloc())?;
-    let state = state(rt.alloc())?;
-    let known = entered(rt.alloc(), &device, &state, 0xF004, &one(0x0280))?;
+    let known = handler_state(rt.alloc())?;
     let pushed = known.cells.read(0x027C, 2);
     are_equal(
         &rt,
@@ -190,12 +195,17 @@ fn what_entries_show(rt: HostRuntime) -> Result<(), Fail> {
     shows(&rt, rt.alloc(), &mirrored, 0x0204, 0x1102, 0x1100)
 }
 
+/// What the handler of an interrupt at F000h begins with, where SP is behind the mirror's second word.
+fn mirrored_state(alloc: Global) -> Result<State<CellList>, Fail> {
+    let device = mirrored_device(alloc)?;
+    let state: State<CellList> = State::first(alloc, 0x1100, 0x38FF)?;
+    Ok(entered(alloc, &device, &state, 0xF000, &one(0x0204))?)
+}
+
 /// PC is pushed at the mirror's second word, and SR at its first one.
 #[test]
 fn an_entry_at_the_mirror(rt: HostRuntime) -> Result<(), Fail> {
-    let device = mirrored_device(rt.alloc())?;
-    let state: State<CellList> = State::first(rt.alloc(), 0x1100, 0x38FF)?;
-    let known = entered(rt.alloc(), &device, &state, 0xF000, &one(0x0204))?;
+    let known = mirrored_state(rt.alloc())?;
     let ranges = [(0x1100, 0x1103)];
     let found = (
         known.sp,

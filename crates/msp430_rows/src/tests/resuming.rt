@@ -41,7 +41,22 @@ fn own() -> Word {
     }
 }
 
-/// SP, GIE and R4 where the state goes on, and whether the fact stays: what the handler gave back is what it was, and with it
+/// SP, GIE and R4 where the state goes on, and whether the fact stays.
+type Resumed = (Vs16, Tri, Word, bool);
+
+fn resumed(alloc: Global, status: Option<Entry>, r4: Word) -> Result<Resumed, Fail> {
+    let at = suspended(alloc)?;
+    let exit = left(alloc, status, r4)?;
+    let state = resume(alloc, true, &at, 0xF000, 0x0280, &exit)?;
+    Ok((
+        state.sp,
+        state.status.bits[3],
+        state.registers[0],
+        state.fact.is_some(),
+    ))
+}
+
+/// What the handler gave back is what it was, and with it
 /// the fact. A handler may clear GIE in SR on the stack.
 #[test]
 fn rows_of_resumed_states(rt: HostRuntime) -> Result<(), Fail> {
@@ -51,15 +66,7 @@ fn rows_of_resumed_states(rt: HostRuntime) -> Result<(), Fail> {
         (from(2, 0xFFFF), number(9), Tri::One, 9, false),
         (None, own(), Tri::Zero, 4, false),
     ] {
-        let at = suspended(rt.alloc())?;
-        let exit = left(rt.alloc(), status, r4)?;
-        let state = resume(rt.alloc(), true, &at, 0xF000, 0x0280, &exit)?;
-        let found = (
-            state.sp,
-            state.status.bits[3],
-            state.registers[0],
-            state.fact.is_some(),
-        );
+        let found = resumed(rt.alloc(), status, r4)?;
         are_equal(&rt, &[(found, (one(0x0280), gie, number(word), is_kept))]);
     }
     Ok(())

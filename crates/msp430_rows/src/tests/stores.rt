@@ -176,13 +176,27 @@ fn of_pushes_to_the_mirror(rt: HostRuntime) -> Result<(), Fail> {
     Ok(())
 }
 
+/// Where an instruction that writes SR stores.
+fn of_status(
+    alloc: Global,
+    device: &Device,
+    operation: Operation,
+    width: Width,
+    source: Source,
+) -> Result<Option<Vs16>, Fail>
+    requires { HasRam device.now }
+{
+    let state = state(alloc, 0x0280)?;
+    let here = here(device, &state);
+    Ok(status(alloc, &here, operation, width, source)?.store)
+}
+
 #[test]
 fn none_to_the_status_register(rt: HostRuntime) -> Result<(), Fail> {
     use Operation::{Add, Bic, Bis, Cmp, Mov};
     use Source::{Immediate, IndirectIncrement, Register as In};
     use Width::{Byte, Word};
-    let (device, state) = (device(rt.alloc())?, state(rt.alloc(), 0x0280)?);
-    let here = here(&device, &state);
+    let device = device(rt.alloc())?;
     let (bit_0, bit_3) = (
         Source::Constant(Constant::One),
         Source::Constant(Constant::Eight),
@@ -207,10 +221,21 @@ fn none_to_the_status_register(rt: HostRuntime) -> Result<(), Fail> {
         (Add, Byte, bit_0),
         (Cmp, Word, bit_0),
     ] {
-        let worked = status(rt.alloc(), &here, operation, width, source)?;
-        are_equal(&rt, &[(worked.store, None)]);
+        let found = of_status(rt.alloc(), &device, operation, width, source)?;
+        are_equal(&rt, &[(found, None)]);
     }
     Ok(())
+}
+
+/// Whether an interrupt that came late may still come behind RETI, which takes this word for SR.
+fn late_behind(alloc: Global, device: &Device, word: Word) -> Result<Tri, Fail>
+    requires { HasRam device.now }
+{
+    let mut state = state(alloc, 0x0280)?;
+    state.late = Tri::One;
+    state.cells.write_one(0x0280, 2, word)?;
+    let worked = return_from_interrupt(alloc, &here(device, &state))?;
+    Ok(worked.after.late)
 }
 
 /// An interrupt that came late stays so behind RETI, whatever SR was.
@@ -232,11 +257,8 @@ fn late_behind_a_return(rt: HostRuntime) -> Result<(), Fail> {
         (any, set_bits),
         (any, from(4, 0xFFFF)),
     ] {
-        let mut state = state(rt.alloc(), 0x0280)?;
-        state.late = Tri::One;
-        state.cells.write_one(0x0280, 2, Word { set, entry })?;
-        let worked = return_from_interrupt(rt.alloc(), &here(&device, &state))?;
-        are_equal(&rt, &[(worked.after.late, Tri::One)]);
+        let late = late_behind(rt.alloc(), &device, Word { set, entry })?;
+        are_equal(&rt, &[(late, Tri::One)]);
     }
     Ok(())
 }
