@@ -46,7 +46,7 @@ fn goes_on(
     way: &Way<Kept<State<CellList>>>,
     following: u16,
     place: &str,
-    wanted: &Option<State<CellList>>,
+    wanted: Option<&State<CellList>>,
 ) -> bool {
     let found = match way {
         Way::Lands { targets, behind } => match words_of(place) {
@@ -66,6 +66,11 @@ fn goes_on(
     }
 }
 
+/// Whether a frame is that of a handler.
+fn is_handler(frame: &Frame) -> bool {
+    matches!(frame, Frame::Irq { .. })
+}
+
 /// Whether RETI goes back to a state in which this is known.
 fn is_back(
     frame: &Frame,
@@ -81,6 +86,46 @@ fn is_back(
     }
 }
 
+/// Whether an instruction leads on as a row says, to a state in which this is known.
+fn leads_on(
+    ran: &Ran<CellList>,
+    frame: &Frame,
+    at: &State<CellList>,
+    pc: u16,
+    instr: &Instr,
+    wanted: &State<CellList>,
+    after: &str,
+) -> bool {
+    let place = counter_of(after);
+    if place == "back" {
+        return is_back(frame, at, ran, wanted);
+    }
+    let returns = matches!(instr, Instr::ReturnFromInterrupt);
+    if returns && goes_back(is_handler(frame), frame, at) {
+        return false;
+    }
+    let wanted = if after.ends_with("never") {
+        None
+    } else {
+        Some(wanted)
+    };
+    goes_on(&ran.way, instr.following(pc), place, wanted)
+}
+
+/// A state with what words say of it, but for PC.
+fn changed(
+    alloc: Global,
+    at: &State<CellList>,
+    words: &str,
+) -> Result<Option<State<CellList>>, Memory> {
+    let mut state = at.copy(alloc)?;
+    if put_all(&mut state, words)? {
+        Ok(Some(state))
+    } else {
+        Ok(None)
+    }
+}
+
 /// Whether an instruction does what a row says.
 fn does(
     alloc: Global,
@@ -91,26 +136,11 @@ fn does(
     at: &State<CellList>,
     after: &str,
 ) -> Result<bool, Memory> {
-    let framed = matches!(frame, Frame::Irq { .. });
-    let ran = run(alloc, image, framed, at, pc, instr)?;
-    let mut wanted = at.copy(alloc)?;
-    if !put_all(&mut wanted, after)? || !are_shown(&ran, after) {
+    let Some(wanted) = changed(alloc, at, after)? else {
         return Ok(false);
-    }
-    let place = counter_of(after);
-    if place == "back" {
-        return Ok(is_back(frame, at, &ran, &wanted));
-    }
-    let returns = matches!(instr, Instr::ReturnFromInterrupt);
-    if returns && goes_back(framed, frame, at) {
-        return Ok(false);
-    }
-    let wanted = if after.ends_with("never") {
-        None
-    } else {
-        Some(wanted)
     };
-    Ok(goes_on(&ran.way, instr.following(pc), place, &wanted))
+    let ran = run(alloc, image, is_handler(frame), at, pc, instr)?;
+    Ok(are_shown(&ran, after) && leads_on(&ran, frame, at, pc, instr, &wanted, after))
 }
 
 /// Whether a row of an instruction holds.

@@ -27,19 +27,30 @@ fn states_of(
     }
 }
 
+/// Two states joined, or widened.
+fn grown(
+    alloc: Global,
+    form: &str,
+    held: &State<CellList>,
+    new: &State<CellList>,
+) -> Result<State<CellList>, Memory> {
+    if form == "join" {
+        Ok(held.join(alloc, new)?)
+    } else {
+        Ok(held.widen(alloc, new, &MARKS)?)
+    }
+}
+
 /// Whether two states are joined, or widened, to what a row says, and it says something just where the second one isn't
 /// within the first.
 pub fn grows(alloc: Global, form: &str, words: &str, after: &str) -> Result<bool, Memory> {
     let Some((_, held, new)) = states_of(alloc, words)? else {
         return Ok(false);
     };
-    let found = if form == "join" {
-        held.join(alloc, &new)?
-    } else {
-        held.widen(alloc, &new, &MARKS)?
-    };
+    let found = grown(alloc, form, &held, &new)?;
     let is_within = new.within(&held);
-    Ok(is_within == after.trim().is_empty() && is_changed(&found, held, after)?)
+    let is_changed = is_changed(&found, held, after)?;
+    Ok(is_changed && is_within == after.trim().is_empty())
 }
 
 /// Whether a suspended state goes on as a row says.
