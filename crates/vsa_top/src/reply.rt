@@ -170,6 +170,26 @@ fn push_certificate<C: LawfulText>(
     Ok(())
 }
 
+/// The status and the text of the report of a book, with its certificate where one is asked for.
+fn reported<C: LawfulText + InstrText>(
+    alloc: Global,
+    chip: &C,
+    book: &Book<C>,
+    cert: bool,
+) -> Result<(Status, Vec<u8>), Memory>
+    requires base { book.now.base ≡ C.base chip.now }
+    ensures no_fault { IfOk result (λ told. TellsNoFault told.0) }
+    ensures told { (let b = C.base chip.now in IfOk result (λ told. (workers : ℕ) → IsAnalysis (C.analysis b) workers book.now.journal
+        → IsReported (C.text_of chip.now) (C.analysis b) (C.texts b) workers cert told.0 told.1.items book.now.journal)) }
+{
+    books_are_bounded::<C>();
+    chip.is_program();
+    let report = report_of(alloc, chip, book)?;
+    let mut text = report.text;
+    push_certificate(alloc, chip, book, cert, &mut text)?;
+    Ok((status_of(report.is_closed), text))
+}
+
 /// The report of a book of so many workers, and its certificate where one is asked for.
 fn analysed<C: LawfulText + InstrText>(
     alloc: Global,
@@ -182,14 +202,11 @@ fn analysed<C: LawfulText + InstrText>(
     ensures reply { (let b = C.base chip.now in IfOk result (λ reply. (workers : ℕ) → IsAnalysis (C.analysis b) workers book.journal
         → IsReported (C.text_of chip.now) (C.analysis b) (C.texts b) workers cert reply.status reply.text reply.journal.items)) }
 {
-    books_are_bounded::<C>();
-    chip.is_program();
-    let report = report_of(alloc, chip, &book)?;
-    let mut text = report.text;
-    push_certificate(alloc, chip, &book, cert, &mut text)?;
+    let told = reported(alloc, chip, &book, cert);
     let (_, _, journal) = book.into_parts();
+    let (status, text) = told?;
     Ok(Reply {
-        status: status_of(report.is_closed),
+        status,
         text: Text::from_bytes(text),
         journal,
     })

@@ -2,11 +2,12 @@
 
 ghost use Rattle.std.specs.Prelude.{◌≡◌, ◌++◌, IfOk, OnOk};
 ghost use Rattle.image.specs.Kept.{IsRamRange, IsReadUnder};
-ghost use Rattle.vsa_top.specs.Answer.{IsSummary, IsSummed, IsSummedOn, TellsNoFault};
+ghost use Rattle.vsa_top.specs.Answer.{IsAnalysis, IsSummary, IsSummed, IsSummedOn, TellsNoFault};
 ghost use Rattle.vsa_top.specs.Summary.{count_line, count_lines, summary};
 ghost use Rattle.vsa_words.specs.Words.{IsBounded, rules_of};
 ghost use Rattle.vsa_words.specs.declared.reading.Reading.TheVariants.{Analyse, Gen};
 
+use crate::outcome::Status;
 use crate::reply::{Reply, book_alone, status_of};
 use chip_law::LawfulChip;
 use closing_law::books_are_bounded;
@@ -17,6 +18,7 @@ use mcs51_flow::Mcs51Chip;
 use msp430_flow::Msp430Chip;
 use no_memory::Memory;
 use report_text::{Counts, Report, head_line, push_summary, report_of};
+use round_core::Book;
 use std::alloc::{AllocError, Global};
 use vsa_words::{Target, Task, word_of};
 use worker_rounds::Gate;
@@ -67,6 +69,27 @@ fn summary_of(
     Ok(text)
 }
 
+/// The status and the summary of a made program of which one worker made this book.
+fn summed<C: LawfulChip + InstrText>(
+    alloc: Global,
+    program: &C,
+    chip: ChipName,
+    number: u32,
+    book: &Book<C>,
+) -> Result<(Status, Vec<u8>), Memory>
+    requires base { book.now.base ≡ C.base program.now }
+    requires made { IsAnalysis (C.analysis book.now.base) 1 book.now.journal }
+    ensures no_fault { IfOk result (λ told. TellsNoFault told.0) }
+    ensures told { IfOk result (λ told. IsSummary (C.text_of program.now) (C.analysis (C.base program.now))
+        chip number told.0 told.1.items book.now.journal) }
+{
+    books_are_bounded::<C>();
+    program.is_program();
+    let report = report_of(alloc, program, book)?;
+    let text = summary_of(alloc, chip, number, &report)?;
+    Ok((status_of(report.is_closed), text))
+}
+
 /// The summary of a made program that one worker analyses.
 fn chip_summary<C: LawfulChip + InstrText, G: Gate>(
     alloc: Global,
@@ -79,14 +102,12 @@ fn chip_summary<C: LawfulChip + InstrText, G: Gate>(
     ensures reply { IfOk result (λ reply. IsSummary (C.text_of program.now) (C.analysis (C.base program.now))
         chip number reply.status reply.text reply.journal.items) }
 {
-    books_are_bounded::<C>();
-    program.is_program();
     let book = book_alone(alloc, program, gate)?;
-    let report = report_of(alloc, program, &book)?;
-    let text = summary_of(alloc, chip, number, &report)?;
+    let told = summed(alloc, program, chip, number, &book);
     let (_, _, journal) = book.into_parts();
+    let (status, text) = told?;
     Ok(Reply {
-        status: status_of(report.is_closed),
+        status,
         text: Text::from_bytes(text),
         journal,
     })
