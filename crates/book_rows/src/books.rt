@@ -62,6 +62,11 @@ pub(crate) fn sizes<C: Chip>(book: &Book<C>) -> Sizes {
     )
 }
 
+/// The same of a book that nothing else is asked of.
+pub(crate) fn sizes_of<C: Chip>(book: Book<C>) -> Sizes {
+    sizes(&book)
+}
+
 /// The sizes of a book behind a number of turns, and of what it is taken apart into: its nodes, works and events.
 fn sizes_behind<C: Chip>(
     alloc: Global,
@@ -93,8 +98,8 @@ fn has_nodes_behind<C: Chip<Abs = u32>>(
     most: u64,
     nodes: &[(Node, u32)],
 ) -> Result<bool, Memory> {
-    let book = run_for(alloc, chip, most)?;
-    Ok(book.nodes() == nodes)
+    let (found, _, _) = run_for(alloc, chip, most)?.into_parts();
+    Ok(found.as_slice() == nodes)
 }
 
 #[test]
@@ -182,10 +187,9 @@ fn claim_each<C: Chip>(
     let mut book = run_for(alloc, chip, turns)?;
     let mut told = vec![in alloc; told_of(&book, false); 1]?;
     let claimed = claim_all(&mut book, chip, seats, &mut told);
-    let same = book.journal() == events;
-    drop(book);
+    let (_, _, journal) = book.into_parts();
     claimed?;
-    Ok((told, same))
+    Ok((told, journal.as_slice() == events))
 }
 
 fn unit_at(pc: u16) -> Unit {

@@ -2,7 +2,7 @@
 
 ghost use Rattle.std.specs.Prelude.{◌<◌, ◌≤◌};
 
-use crate::books::{Sizes, sizes};
+use crate::books::{Sizes, sizes_of};
 use crate::chip::{failing, of_shape};
 use crate::shape::Shape;
 use chip_analysis::Chip;
@@ -25,7 +25,7 @@ fn crew_sizes<R: Threads + Wait + Sync, C: Chip<Base: Send> + Send + Sync>(
     requires few { workers ≤ 16 }
 {
     match fixpoint(rt, alloc, chip, workers, &NoGate) {
-        Ok(book) => Some(sizes(&book)),
+        Ok(book) => Some(sizes_of(book)),
         Err(Memory) => None,
     }
 }
@@ -58,7 +58,10 @@ fn is_told<R: Threads + Wait + Sync, C: Chip<Base: Send> + Send + Sync>(
     gate: &HoldingGate,
 ) -> bool {
     match fixpoint(rt, alloc, chip, 2, gate) {
-        Ok(book) => gate.saw_both(book.journal()),
+        Ok(book) => {
+            let (_, _, journal) = book.into_parts();
+            gate.saw_both(journal.as_slice())
+        }
         Err(Memory) => false,
     }
 }

@@ -3,7 +3,7 @@
 ghost use Rattle.std.specs.Prelude.{◌≡◌, false, Some};
 ghost use Rattle.fact_table.specs.Named.{table_of};
 
-use crate::books::{Sizes, sizes};
+use crate::books::{Sizes, sizes_of};
 use crate::chip::of_shape;
 use crate::shape::Shape;
 use chip_analysis::Chip;
@@ -57,7 +57,7 @@ fn shared<R: Wait, C: Chip>(
     let worked = take_turn(rt, alloc, chip, &table, &mut first, false);
     let none = take_turn(rt, alloc, chip, &table, &mut second, false);
     table.join(&mut second, first);
-    let sizes = sizes(&table.close(second));
+    let sizes = sizes_of(table.close(second));
     Ok((sizes, [in_vain.ok(), worked.ok(), none.ok()]))
 }
 
