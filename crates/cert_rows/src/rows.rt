@@ -1,13 +1,15 @@
 //! Whether a row holds.
 
-ghost use Rattle.std.specs.Prelude.{◌≤◌, length};
+ghost use Rattle.std.specs.Prelude.{◌≡◌, ◌≤◌, length};
 
 use crate::countdown::Countdown;
 use crate::texts::{long_certificate, text_of};
 use call_context::Node;
 use cert_check::{CheckError, Refusal, check};
 use cert_text::{Cert, MOST_BYTES, ReadError, Reader, write};
+use no_memory::Memory;
 use node_fields::push_node;
+use round_core::Book;
 use state_text::{LawfulText, Outside};
 use std::alloc::{AllocError, Global};
 use vsa_io::CleanSink;
@@ -96,15 +98,21 @@ fn is_said(alloc: Global, wanted: &str, text: &[u8], last: usize) -> Result<bool
     Ok(true)
 }
 
+/// Whether a text is the certificate of a book.
+fn is_written<C: LawfulText>(alloc: Global, chip: &C, book: &Book<C>, text: &[u8]) -> Option<bool>
+    requires { C.base chip.now ≡ book.now.base }
+{
+    let mut sink = CleanSink::with_room(alloc, 7, 100).ok()?;
+    write(alloc, chip, book, &mut sink).ok()?;
+    Some(sink.bytes() == text)
+}
+
 /// Whether a text is the certificate of what the analysis of a chip finds.
 fn is_own<C: LawfulText>(alloc: Global, chip: &C, text: &[u8]) -> Result<bool, AllocError> {
-    if let Ok(book) = fixpoint_alone(alloc, chip)
-        && let Ok(mut sink) = CleanSink::with_room(alloc, 7, 100)
-        && let Ok(()) = write(alloc, chip, &book, &mut sink)
-    {
-        return Ok(sink.bytes() == text);
+    match fixpoint_alone(alloc, chip) {
+        Ok(book) => is_written(alloc, chip, &book, text).ok_or(AllocError),
+        Err(Memory) => Err(AllocError),
     }
-    Err(AllocError)
 }
 
 /// Whether a line holds.
