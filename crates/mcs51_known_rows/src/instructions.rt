@@ -2,7 +2,7 @@
 
 use crate::sets::{number_of, words_of};
 use crate::showing::is_access;
-use crate::states::{is_same, put_all, state_of};
+use crate::states::{is_interrupt, is_same, put_all, state_of};
 use abs_memory::CellList;
 use call_context::Frame;
 use chip_flow::Kept;
@@ -66,11 +66,6 @@ fn goes_on(
     }
 }
 
-/// Whether a frame is that of a handler.
-fn is_handler(frame: &Frame) -> bool {
-    matches!(frame, Frame::Irq { .. })
-}
-
 /// Whether RETI goes back to a state in which this is known.
 fn is_back(
     frame: &Frame,
@@ -101,7 +96,7 @@ fn leads_on(
         return is_back(frame, at, ran, wanted);
     }
     let returns = matches!(instr, Instr::ReturnFromInterrupt);
-    if returns && goes_back(is_handler(frame), frame, at) {
+    if returns && goes_back(is_interrupt(frame), frame, at) {
         return false;
     }
     let wanted = if after.ends_with("never") {
@@ -139,7 +134,7 @@ fn does(
     let Some(wanted) = changed(alloc, at, after)? else {
         return Ok(false);
     };
-    let ran = run(alloc, image, is_handler(frame), at, pc, instr)?;
+    let ran = run(alloc, image, is_interrupt(frame), at, pc, instr)?;
     Ok(are_shown(&ran, after) && leads_on(&ran, frame, at, pc, instr, &wanted, after))
 }
 

@@ -1,7 +1,7 @@
 //! Rows of two states.
 
 use crate::sets::number_of;
-use crate::states::{is_changed, state_of};
+use crate::states::{is_changed, is_interrupt, state_of};
 use abs_memory::CellList;
 use call_context::Frame;
 use mcs51_resume::resume;
@@ -59,7 +59,6 @@ pub fn resumes(alloc: Global, words: &str, after: &str) -> Result<bool, Memory> 
     let (Some(pc), Some((frame, at, exit))) = (number_of(pc), states_of(alloc, words)?) else {
         return Ok(false);
     };
-    let framed = matches!(frame, Frame::Irq { .. });
-    let found = resume(alloc, framed, &at, pc, SP, &exit)?;
+    let found = resume(alloc, is_interrupt(&frame), &at, pc, SP, &exit)?;
     is_changed(&found, at, after)
 }

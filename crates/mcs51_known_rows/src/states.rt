@@ -41,6 +41,11 @@ pub fn state_of(alloc: Global, words: &str) -> Result<Option<(Frame, State<CellL
     Ok(Some((frame, state)))
 }
 
+/// Whether a frame is an interrupt's.
+pub fn is_interrupt(frame: &Frame) -> bool {
+    matches!(frame, Frame::Irq { .. })
+}
+
 /// Puts all that words say into a state, but for PC.
 pub fn put_all(state: &mut State<CellList>, words: &str) -> Result<bool, Memory> {
     for word in words.split(' ') {

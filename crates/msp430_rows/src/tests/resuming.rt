@@ -56,8 +56,7 @@ fn resumed(alloc: Global, status: Option<Entry>, r4: Word) -> Result<Resumed, Fa
     ))
 }
 
-/// What the handler gave back is what it was, and with it
-/// the fact. A handler may clear GIE in SR on the stack.
+/// What the handler gave back is what it was, and with it the fact. A handler may clear GIE in SR on the stack.
 #[test]
 fn rows_of_resumed_states(rt: HostRuntime) -> Result<(), Fail> {
     for (status, r4, gie, word, is_kept) in [
