@@ -29,6 +29,8 @@ mod reach;
 mod reading;
 mod registers;
 mod stores;
+#[cfg(test)]
+mod tests;
 mod worked;
 mod writing;
 

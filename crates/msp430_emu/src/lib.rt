@@ -35,6 +35,8 @@ mod single;
 mod state;
 mod step;
 mod stepped;
+#[cfg(test)]
+mod tests;
 
 pub use choosing::Choices;
 pub use msp430_chip::Wild;

@@ -22,6 +22,8 @@ mod raised;
 mod same;
 mod spent;
 mod table;
+#[cfg(test)]
+mod tests;
 mod ticket;
 mod turns;
 mod versions;

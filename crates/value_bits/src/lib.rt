@@ -31,6 +31,8 @@ mod making;
 mod operations;
 mod order;
 mod results;
+#[cfg(test)]
+mod tests;
 mod tri;
 pub mod w16;
 pub mod w8;

@@ -15,7 +15,7 @@ use Rattle.value_set.proofs.Gathers.{Ascends-wider}
 use Rattle.value_set.proofs.Answering.{member_below, count_of_run}
 use Rattle.value_set.proofs.Formulas.{gathers_normal, gathers_have}
 use Rattle.value_set.proofs.Sums.{some_members}
-use Rattle.value_set.proofs.Tests.{gather_same}
+use Rattle.value_set.proofs.MemberTests.{gather_same}
 
 wide_below : (v : ℕ) (set : Form) → IsNormal 256 set → Has 256 set v → v < 65536
 wide_below v set normal there = let low = member_below 256 v set normal there in omega (arith, low)

@@ -19,6 +19,6 @@ pub mod Promises
 pub mod Remainders
 pub mod Formulas
 pub mod Bounds
-pub mod Tests
+pub mod MemberTests
 pub mod BytesAsWords
 pub mod Wholes

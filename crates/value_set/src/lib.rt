@@ -19,6 +19,8 @@ mod merging;
 mod number;
 pub mod sets;
 mod summing;
+#[cfg(test)]
+mod tests;
 mod widening;
 mod widths;
 mod words;

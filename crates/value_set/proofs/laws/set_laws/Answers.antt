@@ -1,6 +1,6 @@
 use Rattle.value_set.specs.StepFacts.{length-steps, steps_from, steps_have}
 use Rattle.value_set.proofs.Bounds.{gather_below, join_below, make_below, put_below}
-use Rattle.value_set.proofs.Tests.{asked, gather_same, gather_two, listed, member_found, only_number, single_rest}
+use Rattle.value_set.proofs.MemberTests.{asked, gather_same, gather_two, listed, member_found, only_number, single_rest}
 use Rattle.value_set.proofs.laws.set_laws.Goals as goal
 
 -- what the laws say, and the lemmas beside them
