@@ -1,6 +1,6 @@
 //! Returns from interrupts.
 
-ghost use Rattle.std.specs.Prelude.{◌≡◌, IfOk, IsTrue};
+ghost use Rattle.std.specs.Prelude.{◌≡◌, ◌++◌, ◌∷◌, [], IfOk, IsTrue, OnOk};
 ghost use Rattle.std.specs.Option.{option_copied};
 ghost use Rattle.chip_flow.specs.Works as the_works;
 
@@ -32,6 +32,31 @@ fn may_be(set: &Set, n: u16) -> bool
     }
 }
 
+/// Adds where the handler of an interrupt goes on, with what is known there.
+fn add_resumption<F: Flow>(
+    flow: &F,
+    alloc: Global,
+    work: &mut Work<Kept<F::State>>,
+    at: &Location<F::State>,
+    from: u16,
+    sp: u16,
+    exit: &F::State,
+) -> Result<(), Memory>
+    requires { the_works.FitsIn ((F.flow flow.now).stack at.now.state.now) sp }
+    ensures items { OnOk result (work.new.items ≡ work.old.items ++ Item.Edge from at.now.pc ∷ []) }
+    ensures posts { (let known = (F.flow flow.now).resumed at.now.frame at.now.state.now at.now.pc sp exit.now in
+        OnOk result (work.new.posts ≡ work.old.posts ++ (Node.At at.now.pc at.now.calls.now at.now.frame, known) ∷ [])) }
+    ensures waits { OnOk result (work.new.waits ≡ work.old.waits) }
+    ensures opens { OnOk result (work.new.opens ≡ work.old.opens) }
+{
+    work.items.push(Item::Edge { from, to: at.pc })?;
+    let state = flow.resume(alloc, &at.frame, at.state, at.pc, sp, exit)?;
+    let kept = Kept::new(alloc, state)?;
+    work.posts
+        .push((Node::At(at.pc, *at.calls, at.frame), kept))?;
+    Ok(())
+}
+
 /// Where the handler of an interrupt goes on, at the stack pointer of its frame.
 fn resumed<F: Flow>(
     flow: &F,
@@ -46,11 +71,7 @@ fn resumed<F: Flow>(
 {
     let mut work = empty_work(alloc);
     if may_be(&flow.stack(at.state), sp) {
-        work.items.push(Item::Edge { from, to: at.pc })?;
-        let state = flow.resume(alloc, &at.frame, at.state, at.pc, sp, exit)?;
-        let kept = Kept::new(alloc, state)?;
-        work.posts
-            .push((Node::At(at.pc, *at.calls, at.frame), kept))?;
+        add_resumption(flow, alloc, &mut work, at, from, sp, exit)?;
     }
     Ok(work)
 }

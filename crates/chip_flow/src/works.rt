@@ -1,16 +1,17 @@
 //! The works of units.
 
-ghost use Rattle.std.specs.Prelude.{◌≡◌, ◌++◌, IfOk, OnOk};
+ghost use Rattle.std.specs.Prelude.{◌≡◌, ◌++◌, ◌∷◌, IfOk, OnOk};
 ghost use Rattle.std.specs.Option.{option_copied};
+ghost use Rattle.chip_flow.specs.Going.{going_by};
 ghost use Rattle.chip_flow.specs.Works as the_works;
 
 use crate::entries::entering;
 use crate::flow::Flow;
-use crate::going::{CallSite, Followed, go_on};
+use crate::going::{CallSite, Followed, Onward, go_on};
 use crate::kept::Kept;
 use crate::location::Location;
 use crate::returning::back;
-use call_context::{Cause, Item, Node, Sequence, Unit};
+use call_context::{Cause, InstrBytes, Item, Node, Sequence, Unit};
 use chip_analysis::Work;
 use no_memory::Memory;
 use std::alloc::Global;
@@ -56,6 +57,26 @@ fn stopped<F: Flow>(
     Ok(work)
 }
 
+/// Adds an instruction, where it goes on, and the open of its store.
+fn add_instr<F: Flow>(
+    alloc: Global,
+    ways: &mut Ways<Kept<F::State>>,
+    site: &CallSite<F>,
+    bytes: InstrBytes,
+    onward: Onward<Kept<F::State>>,
+    store: Option<Cause>,
+) -> Result<(), Memory>
+    ensures items { OnOk result (ways.new.items
+        ≡ ways.old.items ++ Item.Instr site.now.pc bytes ∷ (going_by F.joined site.now onward).edges) }
+    ensures posts { OnOk result (ways.new.posts ≡ ways.old.posts ++ (going_by F.joined site.now onward).posts) }
+    ensures opens { OnOk result (ways.new.opens
+        ≡ ways.old.opens ++ (going_by F.joined site.now onward).opens ++ the_works.store_opens site.now.pc store) }
+{
+    ways.items.push(Item::Instr { pc: site.pc, bytes })?;
+    go_on(alloc, ways, site, onward)?;
+    add_open(&mut ways.opens, site.pc, store)
+}
+
 /// The work of a location, by what its instruction makes of what is known.
 fn work_by<F: Flow>(
     flow: &F,
@@ -85,7 +106,6 @@ fn work_by<F: Flow>(
         opens,
     };
     let bytes = flow.bytes(instr);
-    ways.items.push(Item::Instr { pc: at.pc, bytes })?;
     let site = CallSite {
         flow,
         pc: at.pc,
@@ -93,8 +113,7 @@ fn work_by<F: Flow>(
         frame: at.frame,
         effect: flow.effect(instr),
     };
-    go_on(alloc, &mut ways, &site, onward)?;
-    add_open(&mut ways.opens, at.pc, store)?;
+    add_instr(alloc, &mut ways, &site, bytes, onward, store)?;
     let Ways {
         items,
         posts,

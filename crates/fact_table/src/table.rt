@@ -36,9 +36,7 @@ impl<C: Chip> FactTable<C> {
         requires empty { book.journal ≡ [] }
         ensures { IfOk result (λ t. t.1 ≡ first_seat (table_of t.0) book.base seats) }
     {
-        let Ok(book) = Box::new(alloc, book) else {
-            return Err(Memory);
-        };
+        let book = Box::new(alloc, book)?;
         let (turns, seat) = TurnTable::new(alloc, Facts { book }, seats)?;
         let door = Door::new();
         Ok((FactTable { turns, door }, seat))

@@ -9,13 +9,11 @@ use Rattle.call_context.specs.declared.node.Unit.{Unit as WorkUnit}
 use Rattle.call_context.specs.declared.node.Unit.TheVariants as unit
 use Rattle.round_core.specs.Same.{same_node}
 use Rattle.round_core.proofs.SameLaws.{same_node-eq}
-use Rattle.round_core.specs.declared.agenda.Agenda.{Agenda}
 use Rattle.round_core.specs.declared.parts.Parts.{Parts}
 use Rattle.round_core.specs.declared.place.Place.TheVariants as place
 use Rattle.round_core.specs.Machine.{Held, place_of, held_at, IsUnit}
 use Rattle.round_core.specs.Agenda.{AreDifferent, IsIn, places_in}
-use Rattle.round_core.specs.Expected.{ExpectsNode}
-use Rattle.round_core.specs.Opening.{one_node}
+use Rattle.round_core.specs.Opening.{one_node, ExpectsOne}
 use Rattle.round_core.specs.Shown.{IsExpected, Shows}
 use Rattle.round_core.proofs.Cases.{truth, if_true, if_false}
 
@@ -34,10 +32,10 @@ module _ {A : Type 0} (node : Node) (state : A) where
   ]
 
   -- the parts that hold one node and expect it
-  pub open-shown : (p : Parts A) (old : Agenda) → p.nodes.rows ≡ (one_node node state).nodes → p.works.rows ≡ []
+  pub open-shown : (p : Parts A) → p.nodes.rows ≡ (one_node node state).nodes → p.works.rows ≡ []
       → p.turns.out ≡ [] → p.turns.returned ≡ []
-      → ExpectsNode p.works.rows old p.agenda node 0 → Shows (one_node node state) p
-  open-shown p old hs ds os rs e = record {
+      → ExpectsOne p.agenda node → Shows (one_node node state) p
+  open-shown p hs ds os rs e = record {
     nodes = hs;
     done = ds;
     distinct = (refl, tt);
@@ -58,8 +56,8 @@ module _ {A : Type 0} (node : Node) (state : A) where
           → IsExpected (one_node node state).nodes p.agenda.candidates.keys p.turns.returned u
       expect (unit.One (At pc calls frame)) k =
           let s = only_held (At pc calls frame) k.0 k.1 in
-          let x : ExpectsNode p.works.rows old p.agenda (At pc calls frame) 0 = subst (λ n. ExpectsNode p.works.rows old p.agenda n 0) (sym s.0) e in
-          (place.One 0, ap (λ o. option_map (λ i. place.One i) o) s.1, inl x.0)
+          let x : ExpectsOne p.agenda (At pc calls frame) = subst (λ n. ExpectsOne p.agenda n) (sym s.0) e in
+          (place.One 0, ap (λ o. option_map (λ i. place.One i) o) s.1, inl x)
       expect (unit.One (Exit pc frame)) k = absurd k
       expect (unit.Back (At pc calls frame) (Exit from left)) k = let bad : false ≡ true = k.4 in absurd (cc)
       expect (unit.Back (At pc calls frame) (At from calls' frame')) k = absurd k
@@ -68,5 +66,5 @@ module _ {A : Type 0} (node : Node) (state : A) where
       exit : (pc : ℕ) (f : Frame) (i : ℕ) → place_of (one_node node state).nodes (Exit pc f) ≡ Some i → IsIn i (places_in p.agenda.exits f)
       exit pc f i at =
           let s = only (Exit pc f) i at in
-          let x : ExpectsNode p.works.rows old p.agenda (Exit pc f) 0 = subst (λ n. ExpectsNode p.works.rows old p.agenda n 0) (sym s.0) e in
-          subst (λ j. IsIn j (places_in p.agenda.exits f)) (sym s.1) x.0
+          let x : ExpectsOne p.agenda (Exit pc f) = subst (λ n. ExpectsOne p.agenda n) (sym s.0) e in
+          subst (λ j. IsIn j (places_in p.agenda.exits f)) (sym s.1) x

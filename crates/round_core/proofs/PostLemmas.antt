@@ -134,7 +134,8 @@ module _ {A : Type 0} (b : BookState A) (p p' : Parts A) (o : Out A) (work : Rat
 
   -- what the unit that came home expects, seen as a location's own work
   own : (n : Node) → unit.One n ≡ o.unit → (i : ℕ) → place_of b.nodes n ≡ Some i
-      → (HasRisen o.versions (versions_of b.nodes (unit.One n)) → IsIn (place.One i) p'.agenda.candidates.keys) × ((f : Frame) → IsIn f work.waits → IsIn i (places_in p'.agenda.waiting f))
+      → (HasRisen o.versions (versions_of b.nodes (unit.One n)) → IsIn (place.One i) p'.agenda.candidates.keys) ×
+      ((f : Frame) → IsIn f work.waits → IsIn i (places_in p'.agenda.waiting f))
       × ((f : Frame) → IsIn f work.waits → (x : ℕ) → IsIn x (places_in mid.exits f) → IsIn (place.Back i x) p'.agenda.candidates.keys)
   own n e i at = let x : ExpectsUnit mid p'.agenda b.nodes (unit.One n) o.versions work.waits = subst (λ u. ExpectsUnit mid p'.agenda b.nodes u o.versions work.waits) (sym e) eu in x i at
 

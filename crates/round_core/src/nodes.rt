@@ -3,6 +3,7 @@
 ghost use Rattle.std.specs.Prelude.{◌≡◌, ◌≤◌, ◌+◌, ◌<◌, [], map, nat_lt, if◌then◌else◌, IfOk, OnOk, IfSome, MatchOption, length, slice_get, Some, None, ◌^◌, ℕ};
 ghost use Rattle.std.specs.Option.{option_map};
 ghost use Rattle.round_core.specs.Machine.{Held, held_at, with_held, place_of, version_of};
+ghost use Rattle.round_core.specs.Opening.{one_node};
 ghost use Rattle.round_core.specs.Raise.{held_rows, place_for, with_all, ArePlaced};
 
 use crate::raised::{Raised, Risen};
@@ -45,6 +46,18 @@ impl<A> Nodes<A> {
         Nodes {
             table: Table::new(alloc),
         }
+    }
+
+    /// One node that rose once.
+    pub fn of_one(alloc: Global, node: Node, state: A) -> Result<Self, Memory>
+    where
+        A: Drop,
+        ensures { IfOk result (λ nodes. nodes.rows ≡ (one_node node state).nodes) }
+    {
+        let mut nodes = Nodes::new(alloc);
+        nodes.reserve(1)?;
+        nodes.set_at(0, node, state, 1);
+        Ok(nodes)
     }
 
     /// The nodes with their states.

@@ -18,7 +18,7 @@ ghost use Rattle.round_core.specs.Raise.{held_rows, with_all, ArePlaced, RisesOv
 use crate::agenda::Agenda;
 use crate::candidates::add_all;
 use crate::event::Event;
-use crate::expect::{expect_node, expect_raised, expect_unit};
+use crate::expect::{expect_raised, expect_unit};
 use crate::nodes::Nodes;
 use crate::place::Place;
 use crate::raised::Raised;
@@ -57,16 +57,11 @@ impl<A: Drop> Parts<A> {
         ensures journal { IfOk result (λ parts. parts.turns.journal ≡ []) }
         ensures shown { IfOk result (λ parts. Shows (one_node node state) parts) }
     {
-        let node = &node;
-        let mut nodes = Nodes::new(alloc);
-        let works = Works::new(alloc);
-        let mut agenda = Agenda::new(alloc);
-        expect_node(&mut agenda, &works, node, 0)?;
-        nodes.reserve(1)?;
-        nodes.set_at(0, *node, state, 1);
+        let nodes = Nodes::of_one(alloc, node, state)?;
+        let agenda = Agenda::of_one(alloc, &node)?;
         Ok(Parts {
             nodes,
-            works,
+            works: Works::new(alloc),
             turns: Turns::new(alloc),
             agenda,
         })

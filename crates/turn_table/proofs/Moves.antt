@@ -266,7 +266,8 @@ module _ {B E C : Type 0} (history : B → List E) (seat_of : E → ℕ) (base_o
   taking : (slots id : ℕ) (v : Known E C) (c : List (ℕ × Option B)) (t : ℕ) → v.stage ≡ waiting t
       → (s : State (Option B) (Standing E C)) (k : K s) → At s.views id v → k.turns ≡ t
       → IsAtHome history seat_of base_of base seats k.log s.homes
-      → (w : Standing E C) × (a : Act (Option B)) × Rattle.atomic_table.specs.Table.Valid s.homes c a × K (stepped s 1 (get_or s.words 1 0) id c w a) × Served history seat_of base_of (seated v, c) (w, Rattle.atomic_table.specs.Table.carried_after c a)
+      → (w : Standing E C) × (a : Act (Option B)) × Rattle.atomic_table.specs.Table.Valid s.homes c a × K
+      (stepped s 1 (get_or s.words 1 0) id c w a) × Served history seat_of base_of (seated v, c) (w, Rattle.atomic_table.specs.Table.carried_after c a)
   taking slots id v c t waits s k at now (x, home, hx, bx) =
       let w = serves (ticket_in v.stage) (history x) v in
       let lt = at_within s.views id (seated v) at in

@@ -135,6 +135,7 @@ pub fn fixpoint<R: Threads + Wait + Sync, C: Chip<Base: Send> + Send + Sync, G: 
     let book = table.close(seat);
     if !book.finished() {
         // Every worker that ends without that ran out of memory.
+        drop(book);
         return Err(Memory);
     }
     // The journal of a book is legal by itself.

@@ -1,5 +1,4 @@
-use Rattle.std.proofs.Common.{ℕ, ◌++◌, List, [], ◌∷◌, ap, ◌∙◌}
-use Rattle.call_context.specs.declared.shown.Item.TheVariants.{Instr}
+use Rattle.std.proofs.Common.{ap}
 use Rattle.chip_flow.specs.declared.calls.CallEffect.{CallEffect}
 use Rattle.chip_flow.specs.Calls.{Site}
 use Rattle.chip_flow.specs.Works.{last_end}
@@ -12,14 +11,13 @@ returns g c =
     let pc = c.args.at.now.pc in
     let calls = c.args.at.now.calls.now in
     let frame = c.args.at.now.frame in
-    let front = c.in_ok-items.field-0 in
+    let ways = c.add_instr.new.ways in
     let site : CallEffect → Site = λ effect. record { limit = flow.limit; pc = pc; calls = calls; end = last_end flow calls; frame = frame; effect = effect } in
-    work_made g.F.Flow.joined flow pc calls frame c.args.at.now.state.now c.args.instr.now c.args.made (site c.effect.result) front
-    c.push.new.self c.go_on.new.ways.items c.go_on.new.ways.posts c.go_on.new.ways.opens c.add_open.new.opens
+    work_made g.F.Flow.joined flow pc calls frame c.args.at.now.state.now c.args.instr.now c.args.made (site c.effect.result) c.in_ok-items.field-0
+    c.bytes-bytes.result ways.items ways.posts ways.opens
     (ap site c.effect.ensures)
     c.in_ok-items.ensures
-    (c.in_ok-push.ensures.added ∙ ap (λ (bytes : List ℕ). front.items ++ Instr pc bytes ∷ []) c.bytes-bytes.ensures)
-    c.in_ok-go_on.ensures.items
-    c.in_ok-go_on.ensures.posts
-    c.in_ok-go_on.ensures.opens
-    c.in_ok-add_open.ensures
+    c.bytes-bytes.ensures
+    c.in_ok-add_instr.ensures.items
+    c.in_ok-add_instr.ensures.posts
+    c.in_ok-add_instr.ensures.opens
