@@ -14,7 +14,7 @@ use crate::laws::unbroken_lists_hold;
 use call_context::{Item, Unit};
 use chip_analysis::Work;
 use chip_law::LawfulChip;
-use closing_law::ClosedBook;
+use closing_law::{ClosedBook, covers_runs};
 use item_lines::{InstrText, item_line};
 use no_memory::Memory;
 use std::alloc::Global;
@@ -104,7 +104,7 @@ pub fn decide<C: LawfulChip + InstrText>(
         (flat_map (λ work. work.items) (values_of book.now.works))) }
     ensures holds { IfOk result (λ broken. broken.items ≡ [] → Holds (C.machine book.now.base) list.now) }
 {
-    book.covers_runs();
+    covers_runs(book);
     unbroken_lists_hold::<C>();
     let mut broken = Vec::new(alloc);
     for (line, assertion) in list {

@@ -1,6 +1,6 @@
 //! The least and the greatest stack pointer of a set.
 
-use report_text::{greatest_number, least_number};
+use report_bytes::{greatest_number, least_number};
 use value_set::{Vs8, Vs16};
 
 fn least_of(base: u16, stride: u16, count: u32) -> Option<Option<u16>> {

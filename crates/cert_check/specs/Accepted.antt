@@ -5,8 +5,8 @@ use Rattle.chip_analysis.specs.Analysis.{Analysis}
 use Rattle.round_core.specs.Kept.{nodes_of}
 use Rattle.round_core.specs.Machine.{replay}
 use Rattle.round_core.specs.declared.event.Event.{Event}
-use Rattle.report_text.specs.Report.{closed_report, report_of_journal}
-use Rattle.report_text.specs.Stacks.{HasOneStack}
+use Rattle.report_bytes.specs.Report.{closed_report, report_of_journal}
+use Rattle.report_bytes.specs.Stacks.{HasOneStack}
 use Rattle.state_text.specs.Texts.{StateTexts}
 use Rattle.cert_text.specs.Certificate.{table_of}
 use Rattle.cert_check.specs.Refusal.{refusal_of, works_in}

@@ -3,7 +3,7 @@
 ghost use Rattle.std.specs.Prelude.{◌≡◌, ◌↔◌, ℕ, List, None};
 ghost use Rattle.call_context.specs.declared.node.Node.{Node as ANode};
 ghost use Rattle.chip_analysis.specs.Table.{IsClosedTable};
-ghost use Rattle.closing_law.specs.ClosedBook.{IsClosedBook, table_in};
+ghost use Rattle.closed_book.specs.ClosedBook.{IsClosedBook, table_in};
 ghost use Rattle.cert_text.specs.Writing.{AreNodes, IsCert};
 ghost use Rattle.cert_check.specs.Accepted.{GivesReport, IsAccepted};
 ghost use Rattle.cert_check.specs.Known.{Known};
@@ -13,8 +13,8 @@ ghost use Rattle.round_core.specs.Machine.{replay, IsClosed, IsLegalJournal};
 ghost use Rattle.round_core.specs.declared.event.Event.{Event};
 
 use cert_text::certificates_are_tables;
-use closing_law::{closed_book_is_its_table, tables_have_no_order};
-use report_text::closed_reports_are_of_tables;
+use closed_book::{closed_book_is_its_table, tables_have_no_order};
+use report_bytes::closed_reports_are_of_tables;
 use round_core::tests_tell_which_are_one;
 use state_text::LawfulText;
 
@@ -23,7 +23,7 @@ pub fn tables_are_known<C: LawfulText>()
     ensures { (b : C.Base) → C.program b → (rows : List (ANode × C.Abs)) → AreNodes (C.analysis b) rows
         → Known (C.analysis b) (C.texts b) rows }
 {
-    C::laws();
+    C::order_laws();
     C::texts_are_exact();
     tests_tell_which_are_one();
 }

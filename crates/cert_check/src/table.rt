@@ -3,7 +3,7 @@
 ghost use Rattle.std.specs.Prelude.{◌≡◌, IfOk, option_map};
 ghost use Rattle.std.specs.List.{IsDistinct};
 ghost use Rattle.std.specs.Map.{keys_of};
-ghost use Rattle.closing_law.specs.ClosedBook.{table_in};
+ghost use Rattle.closed_book.specs.ClosedBook.{table_in};
 ghost use Rattle.round_core.specs.Same.{same_node};
 ghost use Rattle.cert_check.specs.Table.{placed};
 

@@ -2,7 +2,7 @@
 
 ghost use Rattle.std.specs.Prelude.{◌≡◌, ◌+◌, ◌<◌, ◌^◌, ◌++◌, ◌∷◌, [], None, Some, if◌then◌else◌, flat_map, map, option_copied, length, IfOk, IfErr, OnOk};
 ghost use Rattle.item_lines.specs.Line.{open_line_of};
-ghost use Rattle.closing_law.specs.ClosedBook.{table_in};
+ghost use Rattle.closed_book.specs.ClosedBook.{table_in};
 ghost use Rattle.cert_text.specs.Certificate.{is_below};
 ghost use Rattle.cert_check.specs.Exits.{returned};
 ghost use Rattle.cert_check.specs.Refusal as refusals;
@@ -15,7 +15,7 @@ use crate::table::Table;
 use call_context::{Cause, Frame, Node, Unit};
 use cert_text::Cert;
 use chip_analysis::Work;
-use closing_law::ClosedBook;
+use closed_book::ClosedBook;
 use item_lines::open_line;
 use no_memory::Memory;
 use state_text::LawfulText;

@@ -1,4 +1,4 @@
--- The small chip is lawful, and its texts are exact.
+-- The small chip is orderly, and its texts are exact.
 use Rattle.std.proofs.Common.{◌≡◌, ℕ, zero, suc, ◌+◌, ◌-◌, ◌%◌, ◌<◌, ◌≤◌, refl, sym, ap, ◌∙◌, subst, true, false, inl, inr, arith, Option, None, Some, List, [], ◌∷◌, get_or, length, max}
 use Rattle.std.specs.Prelude.{◌↔◌, ◌==◌, ◌&&◌, Contains, nat_le, nat_lt}
 use Rattle.std.proofs.lemmas.Bool.{cases_Bool, and_parts, false≢true, true≢false, le-leb, leb-true, lt-ltb, ltb-true, eqb-true}
@@ -14,11 +14,11 @@ use Rattle.call_context.specs.declared.shown.Cause.TheVariants.{Fetch, Targets}
 use Rattle.value_set.specs.Form.{make}
 use Rattle.call_context.specs.Nodes.{HasEntry, IsLocation, frame_of, pc_of}
 use Rattle.chip_analysis.specs.Analysis.{AreFormed, IsOrdered, KeepsForm}
-use Rattle.chip_law.specs.Laws.{IsLawful, location_of}
+use Rattle.chip_analysis.specs.Orderly.{IsOrderly, location_of}
 use Rattle.text_fields.specs.Numbers.{hex_number_is_exact, number_avoids}
 use Rattle.node_fields.specs.Nodes.{IsNodeText}
 use Rattle.state_text.specs.Texts.{AreTexts}
-use Rattle.cert_rows.specs.Countdown.{countdown, idle, is_frame, is_handler, is_mine, next_of, nothing_covered, opens_of, outside, texts}
+use Rattle.cert_rows.specs.Countdown.{countdown, is_frame, is_handler, is_mine, next_of, opens_of, outside, texts}
 use Rattle.plain_lemmas.specs.Members.{in_none, in_one}
 
 abbrev HasForm : Node → ℕ → Type 0
@@ -112,19 +112,12 @@ ordered = record {
   topped = λ node state h. le-leb state 65535 (omega (arith, h.1));
 }
 
-pub lawful : IsLawful idle countdown nothing_covered
-lawful = record {
+pub orderly : IsOrderly countdown
+orderly = record {
   keeps = keeps;
   ordered = ordered;
   exit_form = no_exit;
   opens_break = λ unit at exit pc cause form c. (opens_at unit at exit pc cause c, tt);
-  first_is_location = tt;
-  first_frame = refl;
-  covers_reset = λ s reset. reset;
-  wild_is_told = λ node a s first why is form covered step. absurd covered;
-  step_lands = λ node a s first items t is form covered step none. absurd covered;
-  return_resumes = λ node exit a x f first t is isnt form form' covered left. absurd covered;
-  covers_more = λ node a b s first form form' within covered. covered;
 }
 
 node_fits : (node : Node) → is_mine node ≡ true → IsNodeText 4 node

@@ -1,6 +1,6 @@
 -- A small chip for rows of certificates: a state is one number below 65536. A location hands its number less one to the next
 -- address, in the base frame; at 0 nothing follows. At 7 its site is open, for two causes. At 4 it waits for a handler, whose
--- exit hands its own number to the address behind the next one, and at 5 for two. It never runs.
+-- exit hands its own number to the address behind the next one, and at 5 for two.
 use Rattle.std.specs.Prelude.{◌≡◌, ℕ, ◌+◌, ◌-◌, ◌%◌, ◌<◌, ◌==◌, ◌&&◌, nat_le, nat_lt, max, Bool, true, false, if◌then◌else◌, Option, None, Some, List, [], ◌∷◌, codes}
 use Rattle.hex_digits.specs.Digits.{hex}
 use Rattle.call_context.specs.declared.node.Frame.{Frame}
@@ -13,8 +13,6 @@ use Rattle.call_context.specs.declared.shown.Cause.{Cause}
 use Rattle.call_context.specs.declared.shown.Cause.TheVariants.{Fetch, Targets}
 use Rattle.value_set.specs.Form.{make}
 use Rattle.chip_analysis.specs.Analysis.{Analysis}
-use Rattle.chip_law.specs.Laws.{Cover}
-use Rattle.chip_law.specs.Machine.{Machine}
 use Rattle.chip_analysis.specs.declared.chip.Work.{Work}
 use Rattle.text_fields.specs.Numbers.{hex_number}
 use Rattle.node_fields.specs.declared.outside.Outside.{Outside}
@@ -83,12 +81,6 @@ countdown = record {
   HasForm = λ node state. (is_mine node ≡ true) × (state < 65536);
   Breaks = λ node a cause. Unit {0};
 }
-
-abbrev pub idle : Machine ℕ
-idle = record { pc = λ s. s; IsReset = λ s. ⊥; Step = λ s outcome. ⊥ }
-
-abbrev pub nothing_covered : Cover ℕ ℕ
-nothing_covered node state s first = ⊥
 
 -- four digits
 abbrev pub outside : ℕ → ℕ → Option Outside

@@ -6,8 +6,7 @@ ghost use Rattle.call_context.specs.declared.node.Node.TheVariants.{At};
 ghost use Rattle.cert_rows.specs.Countdown as countdown;
 
 use call_context::{Calls, Cause, Frame, Node, Sequence, Unit};
-use chip_analysis::{Chip, Work};
-use chip_law::LawfulChip;
+use chip_analysis::{Chip, OrderlyChip, Work};
 use no_memory::Memory;
 use state_text::{LawfulText, Outside, StateText};
 use std::alloc::Global;
@@ -192,22 +191,14 @@ impl Chip for Countdown {
     }
 }
 
-impl LawfulChip for Countdown {
-    type State = u16;
-
-    ghost use Rattle.cert_rows.specs.Countdown.{idle, nothing_covered};
-
-    ghost machine = { λ _. idle };
-
-    ghost covers = { λ _. nothing_covered };
-
+impl OrderlyChip for Countdown {
     ghost program = { λ _. Unit {0} };
 
     ghost alike = { λ _ _. ⊥ };
 
     fn is_program(&self) {}
 
-    fn laws() {}
+    fn order_laws() {}
 
     fn alike_laws() {}
 }

@@ -8,7 +8,7 @@ ghost use Rattle.round_core.specs.declared.event.Event.{Event};
 ghost use Rattle.cert_text.specs.Certificate.{AreRows, cert_of, table_of};
 ghost use Rattle.cert_text.specs.Writing.{AreNodes, IsCert};
 
-use chip_law::LawfulChip;
+use chip_analysis::OrderlyChip;
 use round_core::{closed_book_has_closed_table, nodes_stay, tests_tell_which_are_one};
 use state_text::LawfulText;
 
@@ -22,12 +22,12 @@ pub fn certificates_are_tables<C: LawfulText>()
 }
 
 /// No node of a book has two states, and each is in form with its own: so the book has a certificate, closed or open.
-pub fn nodes_of_books_are_formed<C: LawfulChip>()
+pub fn nodes_of_books_are_formed<C: OrderlyChip>()
     ensures { (b : C.Base) → C.program b → (let a = C.analysis b in
         (journal : List Event) → IsLegalJournal a journal
         → AreNodes a (nodes_of (replay a journal))) }
 {
-    C::laws();
+    C::order_laws();
     nodes_stay::<C>();
     closed_book_has_closed_table::<C>();
     tests_tell_which_are_one();

@@ -1,27 +1,20 @@
--- A text has one verdict, and that of a closed table covers every run.
+-- A text has one verdict, and that of a closed table tells a closed book's report.
 use Rattle.std.proofs.Common.{◌≡◌, ℕ, Bool, true, Option, None, Some, Result, Ok, Err, List, sym, ap, ◌∙◌}
 use Rattle.call_context.specs.declared.node.Node.{Node}
 use Rattle.chip_analysis.specs.Analysis.{Analysis}
-use Rattle.closing_law.specs.ClosedBook.{IsClosedBook}
-use Rattle.report_text.specs.Report.{closed_report}
+use Rattle.report_bytes.specs.Report.{closed_report}
 use Rattle.state_text.specs.Texts.{StateTexts}
 use Rattle.cert_text.specs.Certificate.{table_of}
 use Rattle.cert_text.specs.declared.fault.LineFault.{LineFault}
 use Rattle.cert_check.specs.Refusal.{refusal_of, works_in}
 use Rattle.cert_check.specs.declared.refusal.Refusal.{Refusal}
 use Rattle.cert_verdict.specs.Lines.{fault_line, refusal_line}
-use Rattle.cert_verdict.specs.Verdict.{IsVerdict, first_row}
+use Rattle.cert_verdict.specs.Verdict.{IsVerdict, TellsClosedBook, first_row}
 use Rattle.cert_verdict.specs.Verdict.IsVerdict.{closed, refused, faulty}
 
--- the closed book of a verdict, with its report
-pub record IsTold {A : Type 0} (text_of : ℕ → List ℕ → List ℕ) (a : Analysis A) (told : List ℕ) : Type 0 where
-  pub rows : List (Node × A)
-  pub book : IsClosedBook a rows (works_in a rows)
-  pub report : told ≡ closed_report text_of (works_in a rows)
-
 pub closed_told : {A : Type 0} (text_of : ℕ → List ℕ → List ℕ) (a : Analysis A) (texts : StateTexts A) (text told : List ℕ)
-    → IsVerdict text_of a texts text true told → IsTold text_of a told
-closed_told text_of a texts text told (closed rows read none book is report) = record { rows = rows; book = book; report = report }
+    → IsVerdict text_of a texts text true told → TellsClosedBook text_of a told
+closed_told text_of a texts text told (closed rows read none book is report) = record { nodes = rows; works = works_in a rows; book = book; report = report }
 closed_told text_of a texts text told (refused rows why read first is line) = absurd (cc)
 closed_told text_of a texts text told (faulty line fault bad is told_is) = absurd (cc)
 

@@ -1,9 +1,11 @@
 -- What is told of a certificate: the report of its table, where that is closed, or why it is refused.
 use Rattle.std.specs.Prelude.{◌≡◌, ℕ, Bool, true, false, None, Some, Ok, Err, List}
 use Rattle.call_context.specs.declared.node.Node.{Node}
+use Rattle.call_context.specs.declared.node.Unit.{Unit as WorkUnit}
 use Rattle.chip_analysis.specs.Analysis.{Analysis}
-use Rattle.closing_law.specs.ClosedBook.{IsClosedBook}
-use Rattle.report_text.specs.Report.{closed_report}
+use Rattle.chip_analysis.specs.declared.chip.Work.{Work}
+use Rattle.closed_book.specs.ClosedBook.{IsClosedBook}
+use Rattle.report_bytes.specs.Report.{closed_report}
 use Rattle.state_text.specs.Texts.{StateTexts}
 use Rattle.cert_text.specs.Certificate.{table_of}
 use Rattle.cert_text.specs.declared.fault.LineFault.{LineFault}
@@ -27,3 +29,10 @@ pub data IsVerdict {A : Type 0} (text_of : ℕ → List ℕ → List ℕ) (a : A
       → IsVerdict text_of a texts text is_closed told
   faulty : (line : ℕ) (fault : LineFault) → table_of a texts text ≡ Err (line, fault) → is_closed ≡ false
       → told ≡ fault_line line fault → IsVerdict text_of a texts text is_closed told
+
+-- the report of some closed table is told
+pub record TellsClosedBook {A : Type 0} (text_of : ℕ → List ℕ → List ℕ) (a : Analysis A) (told : List ℕ) : Type 0 where
+  pub nodes : List (Node × A)
+  pub works : List (WorkUnit × Work A)
+  pub book : IsClosedBook a nodes works
+  pub report : told ≡ closed_report text_of works

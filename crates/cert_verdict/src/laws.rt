@@ -3,32 +3,28 @@
 ghost use Rattle.std.specs.Prelude.{◌≡◌, ℕ, Bool, true, List, Ok};
 ghost use Rattle.call_context.specs.declared.node.Node.{Node};
 ghost use Rattle.chip_analysis.specs.Table.{IsClosedTable};
-ghost use Rattle.closing_law.specs.ClosedBook.{table_in};
+ghost use Rattle.closed_book.specs.ClosedBook.{table_in};
 ghost use Rattle.round_core.specs.Kept.{nodes_of};
 ghost use Rattle.round_core.specs.Machine.{replay, IsClosed, IsLegalJournal};
 ghost use Rattle.round_core.specs.declared.event.Event.{Event};
-ghost use Rattle.report_text.specs.Report.{closed_report, report_of_journal};
-ghost use Rattle.report_text.specs.Stacks.{HasOneStack};
+ghost use Rattle.report_bytes.specs.Report.{closed_report, report_of_journal};
+ghost use Rattle.report_bytes.specs.Stacks.{HasOneStack};
 ghost use Rattle.cert_text.specs.Certificate.{table_of};
 ghost use Rattle.cert_text.specs.Writing.{IsCert};
 ghost use Rattle.cert_check.specs.Refusal.{works_in};
-ghost use Rattle.report_text.specs.Promise.{CoversEveryRun};
-ghost use Rattle.cert_verdict.specs.Verdict.{IsVerdict};
+ghost use Rattle.cert_verdict.specs.Verdict.{IsVerdict, TellsClosedBook};
 
 use cert_check::{
     own_certificates_give_the_report, refusals_are_exact, unrefused_tables_are_closed_books,
 };
 use cert_text::tables_have_nodes;
-use report_text::closed_works_cover_runs;
 use state_text::LawfulText;
 
-/// The report that is told of a closed table covers every run of the chip, whoever made the certificate.
-pub fn closed_verdicts_cover_runs<C: LawfulText>()
-    ensures { (base : C.Base) (text_of : ℕ → List ℕ → List ℕ) (text told : List ℕ) → C.program base
-        → IsVerdict text_of (C.analysis base) (C.texts base) text true told → CoversEveryRun (C.machine base) text_of told }
-{
-    closed_works_cover_runs::<C>();
-}
+/// The report that is told of a closed table is that of a closed book, whoever made the certificate.
+pub fn closed_verdicts_tell_closed_books<C: LawfulText>()
+    ensures { (base : C.Base) (text_of : ℕ → List ℕ → List ℕ) (text told : List ℕ)
+        → IsVerdict text_of (C.analysis base) (C.texts base) text true told → TellsClosedBook text_of (C.analysis base) told }
+{}
 
 /// A text has one verdict.
 pub fn verdicts_are_one<C: LawfulText>()

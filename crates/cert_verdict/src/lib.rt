@@ -7,7 +7,8 @@
 //!   ([`closed_tables_have_their_report`]).
 //! - The certificate of a closed book gives the book's own report, where the stacks of the chip grow one way
 //!   ([`own_certificates_are_closed`]).
-//! - The report that is told of a closed table covers every run of the chip ([`closed_verdicts_cover_runs`]).
+//! - The report that is told of a closed table is that of a closed book, whose report covers every run of the chip
+//!   ([`closed_verdicts_tell_closed_books`]).
 #![tactic(auto)]
 
 mod laws;
@@ -15,7 +16,7 @@ mod lines;
 mod verdict;
 
 pub use laws::{
-    closed_tables_have_their_report, closed_verdicts_cover_runs, own_certificates_are_closed,
-    verdicts_are_one,
+    closed_tables_have_their_report, closed_verdicts_tell_closed_books,
+    own_certificates_are_closed, verdicts_are_one,
 };
 pub use verdict::{Verdict, verdict_on};

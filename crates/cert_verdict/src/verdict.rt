@@ -10,7 +10,7 @@ use cert_check::{CheckError, check};
 use cert_text::{Cert, MOST_BYTES, ReadError, Reader};
 use item_lines::InstrText;
 use no_memory::Memory;
-use report_text::closed_report_of;
+use report_bytes::closed_report_of;
 use state_text::LawfulText;
 use std::alloc::Global;
 
@@ -52,7 +52,7 @@ fn judged<C: LawfulText + InstrText>(
 {
     match check(alloc, chip, cert) {
         Ok(book) => {
-            book.covers_runs();
+            book.is_of_closed_table();
             Ok(Verdict {
                 is_closed: true,
                 text: closed_report_of(alloc, chip, &book)?,

@@ -3,5 +3,7 @@
 #![tactic(auto)]
 
 mod chip;
+mod orderly;
 
 pub use chip::{Chip, Work};
+pub use orderly::OrderlyChip;

@@ -73,7 +73,8 @@ stands_way Is Holds ways to a other both more form stands holds = record {
 }
 
 -- on one of the two ways of a jump, of which what is joined holds where either does
-module _ {A : Type 0} (laws : WayLaws A) (joined : A → A → A) (Is Holds : A → Type 0) (behind target : ℕ) (on jumped : Option A) (on_is : IfSome on Is) (jumped_is : IfSome jumped Is) where
+module _ {A : Type 0} (laws : WayLaws A) (joined : A → A → A) (Is Holds : A → Type 0) (behind target : ℕ) (on jumped : Option A)
+    (on_is : IfSome on Is) (jumped_is : IfSome jumped Is) where
   pub way_on : ((a b : A) → Is a → Is b → Holds a → Holds (joined a b)) → (a : A) → on ≡ Some a → Holds a
       → HasWay Holds (ways_of joined behind target on jumped) behind
   way_on more a is holds = subst (λ way. HasWay Holds (ways_of joined behind target way jumped) behind) (sym is)

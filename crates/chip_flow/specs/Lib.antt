@@ -3,12 +3,10 @@ pub mod Flow
 pub mod Going
 pub mod Works
 pub mod Along
-pub mod Landing
 pub mod Marks
 pub mod MarkFacts
 pub mod Opens
 pub mod Posts
-pub mod Returns
 pub mod Sites
 pub mod Stacks
 pub mod Standing

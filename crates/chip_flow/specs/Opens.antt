@@ -15,7 +15,7 @@ use Rattle.call_context.specs.declared.shown.Item.TheVariants.{Edge}
 use Rattle.call_context.specs.Nodes.{pc_of}
 use Rattle.chip_analysis.specs.declared.chip.Work.{Work}
 use Rattle.chip_analysis.specs.Analysis.{Analysis, AreFormed}
-use Rattle.chip_law.specs.Laws.{location_of}
+use Rattle.chip_analysis.specs.Orderly.{location_of}
 use Rattle.value_set.specs.declared.form.Form.{Form}
 use Rattle.plain_lemmas.specs.Members.{from_flat_map, in_first, in_flat_map, in_none, in_one}
 use Rattle.chip_flow.specs.Calls.{Site}

@@ -5,8 +5,8 @@
 //!   instruction goes on, and of a return from an interrupt.
 //! - [`Kept`] is what is known of a state, as it is handed on and kept.
 //!
-//! Where steps land among the posts of such works, which form the posts have, and which opens tell why a step leaves the model
-//! stands in `specs/Landing.antt`, `specs/Posts.antt` and `specs/Opens.antt`, for the laws of the chips.
+//! Which form the posts of such works have, and which opens tell why a step leaves the model, stands in `specs/Posts.antt` and
+//! `specs/Opens.antt`, for the laws of the chips; where steps land among the posts stands above, in `flow_laws`.
 #![tactic(auto)]
 
 mod calls;

@@ -1,5 +1,6 @@
 -- What ties an analysis to its chip: that its start stands for each reset state and its work for each step. The laws speak
 -- of one node, its abstract state, one single state, and the first suspended state alone. Nothing printed speaks of them.
+-- What the analysis owes by itself stands in `chip_analysis/specs/Orderly.antt`.
 use Rattle.std.specs.Prelude.{◌≡◌, ◌⊎◌, ℕ, true, Option, None, Some, List, [], Contains}
 use Rattle.call_context.specs.declared.node.Frame.{Frame}
 use Rattle.call_context.specs.declared.node.Frame.TheVariants.{Base, Irq}
@@ -9,9 +10,9 @@ use Rattle.call_context.specs.declared.node.Unit.{Unit as WorkUnit}
 use Rattle.call_context.specs.declared.node.Unit.TheVariants.{One, Back}
 use Rattle.call_context.specs.declared.shown.Cause.{Cause}
 use Rattle.call_context.specs.declared.shown.Cause.TheVariants.{Fetch, Targets, Store}
-use Rattle.call_context.specs.Nodes.{pc_of, frame_of, HasEntry, IsLocation}
+use Rattle.call_context.specs.Nodes.{pc_of, frame_of, IsLocation}
 use Rattle.chip_analysis.specs.declared.chip.Work.{Work}
-use Rattle.chip_analysis.specs.Analysis.{Analysis, AreFormed, KeepsForm, IsOrdered}
+use Rattle.chip_analysis.specs.Analysis.{Analysis}
 use Rattle.chip_law.specs.Machine.{Machine}
 use Rattle.call_context.specs.Showing.{AreShowing}
 use Rattle.chip_numbers.specs.Single.{Single}
@@ -29,11 +30,6 @@ abbrev pub IsWaitedFor : {A : Type 0} → Work A → Frame → Type 0
 IsWaitedFor work Base = ⊥
 IsWaitedFor work (Irq vector (Some sp) level) = Contains work.waits (Irq vector (Some sp) level)
 IsWaitedFor work (Irq vector None level) = Unit {0}
-
--- the location whose work a unit is, or to which it returns
-abbrev pub location_of : WorkUnit → Node
-location_of (One node) = node
-location_of (Back node exit) = node
 
 -- the cause of an open tells why a step leads out of the model
 abbrev pub Tells : Cause → Leaving → Type 0
@@ -73,14 +69,6 @@ module _ {S A : Type 0} (machine : Machine S) (analysis : Analysis A) (covers : 
     pub shows : AreShowing work.items (Edge (pc_of exit) (machine.pc t))
 
   pub record IsLawful : Type 0 where
-    -- THE ANALYSIS BY ITSELF
-    pub keeps : KeepsForm analysis
-    pub ordered : IsOrdered analysis
-    pub exit_form : (exit : Node) (x : A) → ¬ IsLocation exit → analysis.HasForm exit x → HasEntry (frame_of exit)
-    -- an open is at the address of its unit's location, where it breaks a stated limit by the location's state
-    pub opens_break : (unit : WorkUnit) (at : A) (exit : Option A) (pc : ℕ) (cause : Cause) → AreFormed analysis unit at exit
-        → Contains (analysis.work unit at exit).opens (pc, cause)
-        → (pc_of (location_of unit) ≡ pc) × analysis.Breaks (location_of unit) at cause
     -- THE START
     pub first_is_location : IsLocation analysis.first_node
     pub first_frame : frame_of analysis.first_node ≡ Base

@@ -3,5 +3,5 @@
 
 mod lawful;
 
-pub use chip_analysis::{Chip, Work};
+pub use chip_analysis::{Chip, OrderlyChip, Work};
 pub use lawful::LawfulChip;

@@ -1,24 +1,21 @@
--- From a finished book without opens to its closed table, and back to the works that it has.
-use Rattle.std.proofs.Common.{◌≡◌, Option, None, Some, sym, ap, ◌∙◌, subst}
-use Rattle.std.specs.Prelude.{ℕ, Contains}
+-- From the runs that a table covers to the works that show them.
+use Rattle.std.proofs.Common.{◌≡◌, Option, Some, List, subst}
+use Rattle.std.specs.Prelude.{Contains}
+use Rattle.std.specs.Map.{values_of}
+use Rattle.std.proofs.lemmas.Map.Made.{Contains-values_of}
 use Rattle.call_context.specs.declared.node.Node.{Node}
-use Rattle.call_context.specs.declared.node.Node.TheVariants.{At, Exit}
 use Rattle.call_context.specs.declared.node.Unit.{Unit as WorkUnit}
-use Rattle.call_context.specs.declared.node.Unit.TheVariants.{One, Back}
-use Rattle.call_context.specs.declared.shown.Cause.{Cause}
-use Rattle.call_context.specs.Nodes.{IsLocation}
 use Rattle.chip_analysis.specs.declared.chip.Work.{Work}
-use Rattle.chip_analysis.specs.Analysis.{Analysis, AreFormed}
-use Rattle.chip_law.specs.Laws.{Cover, IsLawful, location_of}
+use Rattle.chip_analysis.specs.Analysis.{Analysis}
+use Rattle.chip_analysis.specs.Table.{IsUnitOver}
+use Rattle.chip_law.specs.Laws.{Cover}
 use Rattle.chip_law.specs.Machine.{Machine}
-use Rattle.chip_analysis.specs.Table.{IsFormedTable, IsUnitOver}
-use Rattle.closing_law.specs.Covered.{AreCovering, CoversRuns, IsBroken, NoneIsOpen}
-use Rattle.round_core.specs.Kept.{live_pairs, live_works}
+use Rattle.closed_book.specs.BookFacts.{AreListed}
+use Rattle.closed_book.specs.ClosedBook.{IsClosedBook, NoneIsOpen, table_in}
+use Rattle.closing_law.specs.Covered.{AreCovering, CoversRuns}
+use Rattle.round_core.specs.Kept.{live_works}
 use Rattle.round_core.specs.Machine.{BookState, Done, done_at, IsUnit, IsFinished, IsClosed}
 use Rattle.round_core.specs.Table.{table_of}
-use Rattle.closing_law.proofs.ClosedBooks.{one_done}
-use Rattle.plain_lemmas.specs.Members.{from_values}
-use Rattle.closing_law.specs.BookFacts.{AreListed, ArePairs, IsItsTable}
 
 abbrev AreKnown : {A : Type 0} → Analysis A → BookState A → Type 0
 AreKnown {A = A} m b = (unit : WorkUnit) (at : A) (exit : Option A) → IsUnitOver m (table_of b.nodes) unit at exit → IsUnit b unit
@@ -42,52 +39,14 @@ are_covering machine m covers b listed known worked runs = record {
   stays = runs.stays;
 }
 
--- the location of a unit over a formed table, and the form of its states
-record IsHome {A : Type 0} (m : Analysis A) (table : Node → Option A) (unit : WorkUnit) (at : A) (exit : Option A) : Type 0 where
-  pub is_location : IsLocation (location_of unit)
-  pub is_held : table (location_of unit) ≡ Some at
-  pub formed : AreFormed m unit at exit
-
-home_of : {A : Type 0} (m : Analysis A) (table : Node → Option A) → IsFormedTable m table → (unit : WorkUnit) (at : A) (exit : Option A)
-    → IsUnitOver m table unit at exit → IsHome m table unit at exit
-home_of m table formed (One (At pc calls frame)) at None over =
-    record { is_location = tt; is_held = over; formed = formed (At pc calls frame) at over }
-home_of m table formed (One (At pc calls frame)) at (Some exit) over = absurd over
-home_of m table formed (One (Exit pc frame)) at exit over = absurd over
-home_of m table formed (Back (At pc calls frame) (Exit from left)) at (Some exit) over =
-    record { is_location = tt; is_held = over.0; formed = (formed (At pc calls frame) at over.0, formed (Exit from left) exit over.1) }
-home_of m table formed (Back (At pc calls frame) (Exit from left)) at None over = absurd over
-home_of m table formed (Back (At pc calls frame) (At from calls' frame')) at exit over = absurd over
-home_of m table formed (Back (Exit pc frame) node) at exit over = absurd over
-
--- a work that a finished book lists is that of a unit over its table's states
-record IsOver {A : Type 0} (m : Analysis A) (b : BookState A) (work : Work A) : Type 0 where
-  pub unit : WorkUnit
-  pub at : A
-  pub exit : Option A
-  pub is_unit : IsUnitOver m (table_of b.nodes) unit at exit
-  pub is_work : work ≡ m.work unit at exit
-
-over_of : {A : Type 0} (m : Analysis A) (b : BookState A) → ArePairs b → IsItsTable m b → (work : Work A)
-    → Contains (live_works b) work → IsOver m b work
-over_of {A = A} m b are its work h =
-    let (unit, listed) = from_values (live_pairs b) work h in
-    let (is_unit, done, found, same) = are.units unit work listed in
-    let (at, exit, over) = its.units unit is_unit in
-    let (other, found_so, is_work) = its.works unit at exit over in
-    record {
-      unit = unit;
-      at = at;
-      exit = exit;
-      is_unit = over;
-      is_work = sym same ∙ ap (λ (d : Done A). d.work) (one_done done other (done_at b.done unit) found found_so) ∙ is_work;
-    }
-
-pub is_broken : {S A : Type 0} (machine : Machine S) (m : Analysis A) (covers : Cover S A) → IsLawful machine m covers → (b : BookState A)
-    → IsFormedTable m (table_of b.nodes) → ArePairs b → IsItsTable m b → (work : Work A) (pc : ℕ) (cause : Cause)
-    → Contains (live_works b) work → Contains work.opens (pc, cause) → IsBroken m b.nodes pc cause
-is_broken machine m covers laws b formed are its work pc cause listed h =
-    let is = over_of m b are its work listed in
-    let home = home_of m (table_of b.nodes) formed is.unit is.at is.exit is.is_unit in
-    let breaks = laws.opens_break is.unit is.at is.exit pc cause home.formed (subst (λ (w : Work _). Contains w.opens (pc, cause)) is.is_work h) in
-    record { node = location_of is.unit; state = is.at; is_location = home.is_location; is_held = home.is_held; at = breaks.0; limit = breaks.1 }
+-- the works of a closed book cover the runs that its table covers
+pub works_cover : {S A : Type 0} (machine : Machine S) (m : Analysis A) (covers : Cover S A) (nodes : List (Node × A)) (works : List (WorkUnit × Work A))
+    → IsClosedBook m nodes works → CoversRuns machine m covers (table_in nodes) → AreCovering machine (values_of works)
+works_cover machine m covers nodes works closed runs = record {
+  shows = λ n item met. let shown = runs.shows n item met in (
+    m.work shown.unit shown.at shown.exit,
+    Contains-values_of works shown.unit _ (closed.each shown.unit shown.at shown.exit shown.is_unit),
+    shown.shows,
+  );
+  stays = runs.stays;
+}

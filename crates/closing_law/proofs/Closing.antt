@@ -11,6 +11,7 @@ use Rattle.call_context.specs.declared.node.Unit.TheVariants.{One, Back}
 use Rattle.call_context.specs.Nodes.{pc_of, frame_of, IsLocation, HasEntry}
 use Rattle.chip_analysis.specs.declared.chip.Work.{Work}
 use Rattle.chip_analysis.specs.Analysis.{Analysis, AreFormed}
+use Rattle.chip_analysis.specs.Orderly.{IsOrderly}
 use Rattle.chip_law.specs.Laws.{Cover, IsLawful, Lands, Resumes, IsWaitedFor}
 use Rattle.chip_law.specs.Laws.Lands.{stays, enters, leaves}
 use Rattle.chip_law.specs.Machine.{Machine}
@@ -48,7 +49,7 @@ formed_return : {A : Type 0} (m : Analysis A) (node : Node) (a : A) (pc : ℕ) (
 formed_return m (At at calls home) a pc frame x location form left = (form, left)
 formed_return m (Exit at home) a pc frame x location form left = absurd location
 
-module _ {S A : Type 0} (machine : Machine S) (m : Analysis A) (covered : Cover S A) (laws : IsLawful machine m covered)
+module _ {S A : Type 0} (machine : Machine S) (m : Analysis A) (covered : Cover S A) (laws : IsLawful machine m covered) (order : IsOrderly m)
     (table : Node → Option A) (formed : IsFormedTable m table) (closed : IsClosedTable m table) where
   -- the first of the suspended states
   abbrev first_of : List S → Option S
@@ -112,7 +113,7 @@ module _ {S A : Type 0} (machine : Machine S) (m : Analysis A) (covered : Cover 
       laws.return_resumes home exit b x f (first_of fs) t below.2 not_location (formed home b below.3) form (covers_of fs home b f below.5) covers in
       let more : IsHeldIn m table home resumes.state = closed.posts_held (Back home exit) b (Some x) home resumes.state is_back resumes.posted in
       let post_form : m.HasForm home resumes.state =
-      laws.keeps.posts (Back home exit) b (Some x) home resumes.state (formed_return m home b pc frame x below.2 (formed home b below.3) form) resumes.posted in
+      order.keeps.posts (Back home exit) b (Some x) home resumes.state (formed_return m home b pc frame x below.2 (formed home b below.3) form) resumes.posted in
       record {
         after = record {
           node = home;
@@ -150,7 +151,7 @@ module _ {S A : Type 0} (machine : Machine S) (m : Analysis A) (covered : Cover 
       → HeldPost to state
   held_post node a location held to state posted =
       let more : IsHeldIn m table to state = closed.posts_held (One node) a None to state (unit_of_location m table node a location held) posted in
-      let form : m.HasForm to state = laws.keeps.posts (One node) a None to state (formed_location m node a location (formed node a held)) posted in
+      let form : m.HasForm to state = order.keeps.posts (One node) a None to state (formed_location m node a location (formed node a held)) posted in
       record { more = more; covers = λ t first covers. covers_held to state t first form more covers }
 
   -- a state stands under a location whose post is held
@@ -185,7 +186,7 @@ module _ {S A : Type 0} (machine : Machine S) (m : Analysis A) (covered : Cover 
       let exit = Exit (pc_of node) (frame_of node) in
       let post = held_post node a location held exit state posted in
       let form : m.HasForm exit post.more.0 = formed exit post.more.0 post.more.1 in
-      returned (frame_of node) (pc_of node) post.more.0 t suspended (m.work (One node) a None) items (laws.exit_form exit post.more.0 (λ h. h) form) form post.more.1
+      returned (frame_of node) (pc_of node) post.more.0 t suspended (m.work (One node) a None) items (order.exit_form exit post.more.0 (λ h. h) form) form post.more.1
       (post.covers t (first_of suspended) covers) node a s refl stands location held refl shows
 
   -- a step from a state that stands somewhere
@@ -207,7 +208,7 @@ module _ {S A : Type 0} (machine : Machine S) (m : Analysis A) (covered : Cover 
         suspended = [];
         is_location = laws.first_is_location;
         is_held = more.1;
-        stands = (laws.first_frame, covers_held m.first_node m.first_state s None laws.keeps.start more (laws.covers_reset s reset));
+        stands = (laws.first_frame, covers_held m.first_node m.first_state s None order.keeps.start more (laws.covers_reset s reset));
       }
   all_stand (suc n) t run = (steps_on run.0 run.1 t (all_stand n run.0 run.2) run.3).after
 

@@ -1,4 +1,2 @@
 pub mod Books
-pub mod ClosedBooks
 pub mod Closing
-pub mod TableOrder

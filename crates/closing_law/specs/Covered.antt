@@ -1,9 +1,8 @@
 -- What a closed table, and a closed book, say of every run.
-use Rattle.std.specs.Prelude.{◌≡◌, ℕ, Option, Some, List, [], Contains}
+use Rattle.std.specs.Prelude.{◌≡◌, ℕ, Option, Some, List, Contains}
 use Rattle.call_context.specs.declared.node.Node.{Node}
 use Rattle.call_context.specs.declared.node.Unit.{Unit as WorkUnit}
-use Rattle.call_context.specs.declared.shown.Cause.{Cause}
-use Rattle.call_context.specs.Nodes.{pc_of, IsLocation}
+use Rattle.call_context.specs.Nodes.{IsLocation}
 use Rattle.call_context.specs.Showing.{AreShowing}
 use Rattle.chip_numbers.specs.Single.{Single}
 use Rattle.chip_analysis.specs.Analysis.{Analysis}
@@ -13,8 +12,6 @@ use Rattle.chip_law.specs.Runs.{RunsTo, Meets, GoesWild}
 use Rattle.chip_analysis.specs.Table.{IsUnitOver}
 use Rattle.chip_analysis.specs.declared.chip.Work.{Work}
 use Rattle.closing_law.specs.Standing.{Stands}
-use Rattle.round_core.specs.Machine.{Held}
-use Rattle.round_core.specs.Table.{table_of}
 
 -- the state stands under some location of the table, with some suspended states
 pub record StandsSomewhere {S A : Type 0} (analysis : Analysis A) (covers : Cover S A) (table : Node → Option A) (s : S) : Type 0 where
@@ -39,22 +36,8 @@ pub record CoversRuns {S A : Type 0} (machine : Machine S) (analysis : Analysis 
   pub shows : (n : ℕ) (item : Single) → Meets machine n item → IsShown analysis table item
   pub stays : (n : ℕ) → GoesWild machine n → ⊥
 
--- no work leaves a site open
-abbrev pub NoneIsOpen : {A : Type 0} → List (Work A) → Type 0
-NoneIsOpen works = (work : Work _) → Contains works work → work.opens ≡ []
-
 -- Whatever a run meets is shown by one of the works, and no run leaves the model.
 pub record AreCovering {S A : Type 0} (machine : Machine S) (works : List (Work A)) : Type 0 where
   pub shows : (n : ℕ) (item : Single) → Meets machine n item
       → (work : Work A) × Contains works work × AreShowing work.items item
   pub stays : (n : ℕ) → GoesWild machine n → ⊥
-
--- The site of an open is the address of a location of the book, where by the location's state the stated limit that the
--- cause names is broken.
-pub record IsBroken {A : Type 0} (analysis : Analysis A) (nodes : List (Held A)) (pc : ℕ) (cause : Cause) : Type 0 where
-  pub node : Node
-  pub state : A
-  pub is_location : IsLocation node
-  pub is_held : table_of nodes node ≡ Some state
-  pub at : pc_of node ≡ pc
-  pub limit : analysis.Breaks node state cause

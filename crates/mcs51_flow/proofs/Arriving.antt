@@ -20,7 +20,7 @@ use Rattle.mcs51_flow.specs.Doing.{IsWay}
 use Rattle.unit_ways.specs.Ways.{ways_of}
 use Rattle.mcs51_flow.specs.Chip.{LeadsTo}
 use Rattle.mcs51_flow.specs.Going.{onward_by}
-use Rattle.mcs51_flow.proofs.LawsBelow.{Laws}
+use Rattle.mcs51_flow.specs.LawsBelow.{Laws}
 
 -- FORMS
 

@@ -13,8 +13,8 @@ use Rattle.choosing.specs.Outcome.Outcome.{Next as Onward}
 use Rattle.chip_flow.specs.Along.{HasWay, limited_is}
 use Rattle.chip_flow.specs.Calls.{Site}
 use Rattle.chip_flow.specs.Going.{ways_in}
-use Rattle.chip_flow.specs.Landing.{Arrives, entry_lands as generic_entry_lands, run_lands as generic_run_lands, step_singles}
-use Rattle.chip_flow.specs.Landing.Arrives.{at_exit, beyond, on_way}
+use Rattle.flow_laws.specs.Landing.{Arrives, entry_lands as generic_entry_lands, run_lands as generic_run_lands, step_singles}
+use Rattle.flow_laws.specs.Landing.Arrives.{at_exit, beyond, on_way}
 use Rattle.chip_flow.specs.Works.{site_of, work_at}
 use Rattle.chip_flow.specs.declared.going.Onward.{Onward as GoesOnward}
 use Rattle.chip_flow.specs.declared.going.Onward.TheVariants as onward
@@ -46,7 +46,7 @@ use Rattle.mcs51_flow.specs.Chip.{IsSetting, entry_items, mcs51_analysis, mcs51_
 use Rattle.mcs51_flow.specs.Going.{leaves_frame, onward_by}
 use Rattle.mcs51_flow.specs.Machine.{mcs51_machine}
 use Rattle.mcs51_flow.proofs.Arriving.{either_way}
-use Rattle.mcs51_flow.proofs.LawsBelow.{Laws}
+use Rattle.mcs51_flow.specs.LawsBelow.{Laws}
 use Rattle.mcs51_flow.proofs.Returning.{is_return, return_goes, return_lands}
 
 accesses_shown : (some : List Item) (pc : ℕ) (accesses : List Access) (item : Single) → AreShown some pc accesses

@@ -7,6 +7,7 @@ use Rattle.call_context.specs.declared.node.Node.TheVariants.{At, Exit}
 use Rattle.call_context.specs.declared.node.Unit.TheVariants.{One}
 use Rattle.call_context.specs.Nodes.{frame_of, IsLocation, HasEntry}
 use Rattle.chip_numbers.specs.Single.{Single}
+use Rattle.chip_analysis.specs.Orderly.{IsOrderly}
 use Rattle.chip_law.specs.Laws.{IsLawful, IsTold, Lands}
 use Rattle.chip_law.specs.Outcome.{Leaving}
 use Rattle.chip_law.specs.Outcome.Outcome.{Next, Wild}
@@ -14,7 +15,7 @@ use Rattle.choosing.specs.Outcome.Outcome.{Next as Onward, Wild as Leaves}
 use Rattle.chip_flow.specs.Along.{IsOnward, ways_formed}
 use Rattle.chip_flow.specs.Opens.{opens_break}
 use Rattle.chip_flow.specs.Posts.{FormsAll, FormsPosts, posts_formed}
-use Rattle.chip_flow.specs.Returns.{ReturnsHold, return_resumes}
+use Rattle.flow_laws.specs.Returns.{ReturnsHold, return_resumes}
 use Rattle.chip_flow.specs.Sites.{sites_by}
 use Rattle.chip_flow.specs.Works.{site_of, work_at, work_of}
 use Rattle.mcs51_decode.specs.declared.instr.Instr.{Instr}
@@ -37,7 +38,7 @@ use Rattle.mcs51_flow.specs.Standing.{fetched}
 use Rattle.mcs51_flow.proofs.Arriving.{IsAddress, leaves_back, onward_formed}
 use Rattle.mcs51_flow.proofs.Landing.{AtLocation, entry_lands, run_lands}
 use Rattle.mcs51_flow.proofs.MarksLemmas.{stops_below}
-use Rattle.mcs51_flow.proofs.LawsBelow.{Laws}
+use Rattle.mcs51_flow.specs.LawsBelow.{Laws}
 use Rattle.mcs51_flow.proofs.Returning.{is_return}
 use Rattle.mcs51_flow.proofs.Stepping.{Comes, comes, framed_by, instr_found, location_breaks, told}
 use Rattle.mcs51_flow.proofs.Stepping.Comes.{entered, ran, refused}
@@ -178,9 +179,9 @@ module _ (laws : Laws) (setting : Setting) (so : IsSetting setting) where
 
 -- THE LAWS
 
-pub lawful : Laws → (setting : Setting) → IsSetting setting → IsLawful (mcs51_machine setting.image) (mcs51_analysis setting) Covers
-unfolding mcs51_machine mcs51_analysis
-lawful laws setting so =
+pub orderly : Laws → (setting : Setting) → IsSetting setting → IsOrderly (mcs51_analysis setting)
+unfolding mcs51_analysis
+orderly laws setting so =
     let states = laws.states in
     record {
       keeps = record {
@@ -202,6 +203,13 @@ lawful laws setting so =
       };
       exit_form = exit_entered;
       opens_break = opens_break (mcs51_analysis setting) known_joined (mcs51_flow setting) (λ pc calls frame a form. location_breaks laws setting so.program pc calls frame a);
+    }
+
+pub lawful : Laws → (setting : Setting) → IsSetting setting → IsLawful (mcs51_machine setting.image) (mcs51_analysis setting) Covers
+unfolding mcs51_machine mcs51_analysis
+lawful laws setting so =
+    let states = laws.states in
+    record {
       first_is_location = tt;
       first_frame = refl;
       covers_reset = states.reset;

@@ -3,7 +3,6 @@ pub mod InstrForms
 pub mod KindLaws
 pub mod Landing
 pub mod Lawful
-pub mod LawsBelow
 pub mod MarksLemmas
 pub mod Returning
 pub mod StackLemmas

@@ -20,7 +20,7 @@ use Rattle.mcs51_flow.specs.declared.ran.Way.TheVariants.{Lands, Goes}
 use Rattle.mcs51_flow.specs.Doing.{IsWaySo, RunsSo}
 use Rattle.mcs51_flow.specs.Running.{behind_of, items_of, ran_from, ran_of, targets_of}
 use Rattle.mcs51_flow.specs.Going.{leaves_frame}
-use Rattle.mcs51_flow.proofs.LawsBelow.{Laws}
+use Rattle.mcs51_flow.specs.LawsBelow.{Laws}
 
 -- no other instruction leaves its frame
 pub is_return : (instr_so : Instr) (frame : Frame) (a : Known) → leaves_frame frame a instr_so ≡ true → instr_so ≡ instr.ReturnFromInterrupt

@@ -39,7 +39,7 @@ use Rattle.mcs51_flow.proofs.InstrForms.{standing_is_instr}
 use Rattle.plain_lemmas.specs.Cases.{same_Some}
 use Rattle.plain_lemmas.specs.Members.{in_none}
 use Rattle.mcs51_flow.proofs.Arriving.{open_leads}
-use Rattle.mcs51_flow.proofs.LawsBelow.{Laws}
+use Rattle.mcs51_flow.specs.LawsBelow.{Laws}
 
 -- WHAT STANDS AT AN ADDRESS
 

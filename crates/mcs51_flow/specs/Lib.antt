@@ -8,3 +8,4 @@ pub mod Texts
 pub mod Running
 pub mod Doing
 pub mod Laws
+pub mod LawsBelow

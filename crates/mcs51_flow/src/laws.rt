@@ -2,11 +2,13 @@
 
 ghost use Rattle.mcs51_state.specs.Holding.{Covers};
 ghost use Rattle.mcs51_flow.specs.Chip.{IsSetting};
+ghost use Rattle.mcs51_flow.specs.LawsBelow.{Laws};
 ghost use Rattle.mcs51_flow.specs.Laws.{RunLaws};
 ghost use Rattle.mcs51_flow.specs.Machine.{mcs51_machine};
 
 use crate::chip::Mcs51Chip;
 use crate::kept::Kept;
+use chip_analysis::OrderlyChip;
 use chip_law::LawfulChip;
 use irq_frames::known_laws;
 use mcs51_alu::{accumulators_do, accumulators_hold};
@@ -43,14 +45,23 @@ pub fn instructions_do()
     jumps_keep_form();
 }
 
-impl LawfulChip for Mcs51Chip {
-    type State = ChipState;
+/// What the laws of the chip rest on.
+fn laws_below()
+    ensures { Laws }
+{
+    known_laws();
+    ways_hold::<Kept>();
+    decoding_laws();
+    step_laws();
+    state_laws();
+    interrupt_laws();
+    return_laws();
+    resumption_laws();
+    instructions_do();
+}
 
+impl OrderlyChip for Mcs51Chip {
     ghost use Rattle.mcs51_flow.specs.Chip.{AreAlike};
-
-    ghost machine = { λ setting. mcs51_machine setting.image };
-
-    ghost covers = { λ setting. Covers };
 
     ghost program = { IsSetting };
 
@@ -60,17 +71,21 @@ impl LawfulChip for Mcs51Chip {
         self.keeps_rules();
     }
 
-    fn laws() {
-        known_laws();
-        ways_hold::<Kept>();
-        decoding_laws();
-        step_laws();
-        state_laws();
-        interrupt_laws();
-        return_laws();
-        resumption_laws();
-        instructions_do();
+    fn order_laws() {
+        laws_below();
     }
 
     fn alike_laws() {}
+}
+
+impl LawfulChip for Mcs51Chip {
+    type State = ChipState;
+
+    ghost machine = { λ setting. mcs51_machine setting.image };
+
+    ghost covers = { λ setting. Covers };
+
+    fn laws() {
+        laws_below();
+    }
 }

@@ -10,8 +10,8 @@ use Rattle.chip_numbers.specs.Single.Single.{Stack as Stood}
 use Rattle.chip_analysis.specs.declared.chip.Work.{Work}
 use Rattle.chip_law.specs.Laws.{Lands}
 use Rattle.chip_flow.specs.Along.{IsOnward, ways_formed}
-use Rattle.chip_flow.specs.Landing.{Arrives, entry_lands as generic_entry_lands, run_lands as generic_run_lands}
-use Rattle.chip_flow.specs.Landing.Arrives.{at_exit, beyond, on_way}
+use Rattle.flow_laws.specs.Landing.{Arrives, entry_lands as generic_entry_lands, run_lands as generic_run_lands}
+use Rattle.flow_laws.specs.Landing.Arrives.{at_exit, beyond, on_way}
 use Rattle.chip_flow.specs.Works.{site_of, work_at}
 use Rattle.chip_flow.specs.declared.going.Onward.{Onward as GoesOnward}
 use Rattle.plain_lemmas.specs.Members.{in_one}
@@ -65,7 +65,7 @@ use Rattle.msp430_flow.specs.Running.{fact_of, followed, gie_of, known_behind, s
 use Rattle.msp430_flow.proofs.RegisterViews.{OperandView, TargetView, operand_view, target_view}
 use Rattle.msp430_flow.proofs.RegisterViews.OperandView.{other_operand, status_operand}
 use Rattle.msp430_flow.proofs.RegisterViews.TargetView.{other_target, status_target}
-use Rattle.msp430_flow.proofs.LawsBelow.{Laws}
+use Rattle.msp430_flow.specs.LawsBelow.{Laws}
 use Rattle.msp430_flow.proofs.Ways.{onward_cases}
 use Rattle.msp430_flow.proofs.Runs.{IsRun, late_form, width_of}
 use Rattle.msp430_flow.proofs.Stepping.{device_of, done_by_hit, entered_state, entry_by, items_of, state_behind}

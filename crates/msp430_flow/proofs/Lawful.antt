@@ -8,6 +8,7 @@ use Rattle.call_context.specs.declared.node.Node.TheVariants.{At, Exit}
 use Rattle.call_context.specs.declared.node.Unit.TheVariants.{One}
 use Rattle.call_context.specs.Nodes.{frame_of, IsLocation, HasEntry}
 use Rattle.chip_numbers.specs.Single.{Single}
+use Rattle.chip_analysis.specs.Orderly.{IsOrderly}
 use Rattle.chip_law.specs.Laws.{IsLawful, IsTold, Lands}
 use Rattle.chip_law.specs.Outcome.{Leaving}
 use Rattle.chip_law.specs.Outcome.Outcome.{Next, Wild}
@@ -16,7 +17,7 @@ use Rattle.std.proofs.lemmas.Bool.{cases_lt}
 use Rattle.chip_flow.specs.Along.{IsOnward, ways_formed}
 use Rattle.chip_flow.specs.Opens.{opens_break}
 use Rattle.chip_flow.specs.Posts.{FormsAll, FormsPosts, posts_formed}
-use Rattle.chip_flow.specs.Returns.{ReturnsHold, return_resumes}
+use Rattle.flow_laws.specs.Returns.{ReturnsHold, return_resumes}
 use Rattle.chip_flow.specs.Sites.{sites_by}
 use Rattle.chip_flow.specs.Works.{site_of, work_at, work_of}
 use Rattle.image.specs.Image.{byte_at, IsByte}
@@ -40,7 +41,7 @@ use Rattle.msp430_flow.specs.Machine.{StepsTo, leaving_of, msp430_machine}
 use Rattle.msp430_flow.specs.Marks.{stops}
 use Rattle.msp430_flow.specs.Running.{gie_of, leaves_frame, worked}
 use Rattle.msp430_flow.proofs.Landing.{AtLocation, IsAhead, entry_lands, exit_formed, joined_ahead, onward_formed, run_lands}
-use Rattle.msp430_flow.proofs.LawsBelow.{Laws}
+use Rattle.msp430_flow.specs.LawsBelow.{Laws}
 use Rattle.msp430_flow.proofs.MarksLemmas.{stops_below}
 use Rattle.msp430_flow.proofs.Stepping.{Comes, comes, device_of, in_base, instr_found, location_breaks, told}
 use Rattle.msp430_flow.proofs.Ways.{leaves_back, onward_cases}
@@ -222,10 +223,9 @@ pub alike_form : (a b : Setting) → AreAlike a b → (node : Node) (state : Kno
     → HasChipForm a.device.ram.lo a.device.ram.hi node state → HasChipForm b.device.ram.lo b.device.ram.hi node state
 alike_form a b alike node state form = subst (λ ram. HasChipForm ram.lo ram.hi node state) alike.ram form
 
-pub lawful : Laws → (setting : Setting) → IsSetting setting
-    → IsLawful (msp430_machine setting.device) (msp430_analysis setting) (Covers setting.device)
-unfolding msp430_machine msp430_analysis
-lawful laws setting so =
+pub orderly : Laws → (setting : Setting) → IsSetting setting → IsOrderly (msp430_analysis setting)
+unfolding msp430_analysis
+orderly laws setting so =
     let device = setting.device in
     let lo = device.ram.lo in
     let hi = device.ram.hi in
@@ -251,6 +251,17 @@ lawful laws setting so =
       };
       exit_form = exit_entered lo hi;
       opens_break = opens_break (msp430_analysis setting) known_joined (msp430_flow setting) (location_breaks laws setting so.program);
+    }
+
+pub lawful : Laws → (setting : Setting) → IsSetting setting
+    → IsLawful (msp430_machine setting.device) (msp430_analysis setting) (Covers setting.device)
+unfolding msp430_machine msp430_analysis
+lawful laws setting so =
+    let device = setting.device in
+    let lo = device.ram.lo in
+    let hi = device.ram.hi in
+    let states = laws.states in
+    record {
       first_is_location = tt;
       first_frame = refl;
       covers_reset = states.reset device;

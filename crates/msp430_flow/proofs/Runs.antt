@@ -48,7 +48,7 @@ use Rattle.msp430_flow.specs.Running.{all_ways, fact_of, followed, gie_of, known
 use Rattle.msp430_flow.proofs.RegisterViews.{OperandView, TargetView, operand_view, target_view}
 use Rattle.msp430_flow.proofs.RegisterViews.OperandView.{other_operand, status_operand}
 use Rattle.msp430_flow.proofs.RegisterViews.TargetView.{other_target, status_target}
-use Rattle.msp430_flow.proofs.LawsBelow.{Laws}
+use Rattle.msp430_flow.specs.LawsBelow.{Laws}
 use Rattle.plain_lemmas.specs.Members.{in_none}
 
 -- one of some ways goes to an address, and the registers and RAM stand under what is known there
@@ -127,7 +127,8 @@ stays_in device frame a instr_so stay leave = cc
 -- TWO OPERANDS
 
 double_comes : Laws
-    → (device : Device) (framed : Bool) (a : Known) (s : ChipState) (first : Option ChipState) (operation : Operation) (width : Width) (origin : Source) (target : Destination) (outcome : Outcome ChipState)
+    → (device : Device) (framed : Bool) (a : Known) (s : ChipState) (first : Option ChipState) (operation : Operation) (width : Width)
+    (origin : Source) (target : Destination) (outcome : Outcome ChipState)
     → IsUnder device framed a s first → IsInstr (instr.Double operation width origin target) → LeavesStatus target
     → MayDouble device s (length_of (instr.Double operation width origin target)) operation width origin target outcome
     → ComesTo device s first (instr.Double operation width origin target) (double_worked device framed a (register_of s 0) (length_of (instr.Double operation width origin target)) operation width origin target) width outcome
@@ -147,7 +148,8 @@ double_comes laws device framed a s first operation width origin target outcome 
 
 -- SR as the destination
 status_comes : Laws
-    → (device : Device) (framed : Bool) (a : Known) (s : ChipState) (first : Option ChipState) (operation : Operation) (width : Width) (origin : Source) (outcome : Outcome ChipState)
+    → (device : Device) (framed : Bool) (a : Known) (s : ChipState) (first : Option ChipState) (operation : Operation) (width : Width)
+    (origin : Source) (outcome : Outcome ChipState)
     → IsUnder device framed a s first → IsSource origin
     → MayDouble device s (length_of (instr.Double operation width origin (destination.Register Sr))) operation width origin (destination.Register Sr) outcome
     → ComesTo device s first (instr.Double operation width origin (destination.Register Sr))
@@ -173,7 +175,8 @@ double_stays device a first made_so left operation width origin target frame sta
     absurd (stays_in device frame a (instr.Double operation width origin target) refl leaves)
 
 status_run : Laws
-    → (device : Device) (framed : Bool) (a : Known) (s : ChipState) (first : Option ChipState) (operation : Operation) (width : Width) (origin : Source) (target : Destination) (outcome : Outcome ChipState)
+    → (device : Device) (framed : Bool) (a : Known) (s : ChipState) (first : Option ChipState) (operation : Operation) (width : Width)
+    (origin : Source) (target : Destination) (outcome : Outcome ChipState)
     → IsUnder device framed a s first → IsInstr (instr.Double operation width origin target)
     → MayDouble device s (length_of (instr.Double operation width origin target)) operation width origin target outcome
     → target ≡ destination.Register Sr
@@ -187,7 +190,8 @@ status_run laws device framed a s first operation width origin target outcome un
 
 -- either of them
 double_run : Laws
-    → (device : Device) (framed : Bool) (a : Known) (s : ChipState) (first : Option ChipState) (operation : Operation) (width : Width) (origin : Source) (target : Destination) (outcome : Outcome ChipState)
+    → (device : Device) (framed : Bool) (a : Known) (s : ChipState) (first : Option ChipState) (operation : Operation) (width : Width)
+    (origin : Source) (target : Destination) (outcome : Outcome ChipState)
     → IsUnder device framed a s first → IsInstr (instr.Double operation width origin target)
     → MayDouble device s (length_of (instr.Double operation width origin target)) operation width origin target outcome
     → TargetView target → IsRun device framed a s first (instr.Double operation width origin target) outcome
@@ -213,7 +217,8 @@ width_of Push width operand fits = tt
 width_of Call width operand fits = tt
 
 single_comes : Laws
-    → (device : Device) (framed : Bool) (a : Known) (s : ChipState) (first : Option ChipState) (operation : SingleOperation) (width : Width) (operand : Source) (outcome : Outcome ChipState)
+    → (device : Device) (framed : Bool) (a : Known) (s : ChipState) (first : Option ChipState) (operation : SingleOperation) (width : Width)
+    (operand : Source) (outcome : Outcome ChipState)
     → IsUnder device framed a s first → IsInstr (instr.Single operation width operand) → LeavesStatusAlone operand
     → MaySingle device s (length_of (instr.Single operation width operand)) operation width operand outcome
     → ComesTo device s first (instr.Single operation width operand) (single_worked device framed a (register_of s 0) (length_of (instr.Single operation width operand)) operation width operand) width outcome
@@ -232,7 +237,8 @@ single_comes laws device framed a s first operation width operand outcome under 
     }
 
 push_comes : Laws
-    → (device : Device) (framed : Bool) (a : Known) (s : ChipState) (first : Option ChipState) (operation : SingleOperation) (width : Width) (operand : Source) (outcome : Outcome ChipState)
+    → (device : Device) (framed : Bool) (a : Known) (s : ChipState) (first : Option ChipState) (operation : SingleOperation) (width : Width)
+    (operand : Source) (outcome : Outcome ChipState)
     → IsUnder device framed a s first → IsInstr (instr.Single operation width operand)
     → MayPush device s (length_of (instr.Single operation width operand)) operation width operand outcome
     → ComesTo device s first (instr.Single operation width operand) (push_worked device framed a (register_of s 0) (length_of (instr.Single operation width operand)) operation width operand) Word outcome
@@ -277,7 +283,8 @@ single_stays : (device : Device) (a : Known) (first : Option ChipState) (made_so
 single_stays device a first made_so left operation width operand frame standing leaves = absurd (stays_in device frame a (instr.Single operation width operand) refl leaves)
 
 push_run : Laws
-    → (device : Device) (framed : Bool) (a : Known) (s : ChipState) (first : Option ChipState) (operation : SingleOperation) (width : Width) (operand : Source) (outcome : Outcome ChipState)
+    → (device : Device) (framed : Bool) (a : Known) (s : ChipState) (first : Option ChipState) (operation : SingleOperation) (width : Width)
+    (operand : Source) (outcome : Outcome ChipState)
     → IsUnder device framed a s first → IsInstr (instr.Single operation width operand)
     → MayPush device s (length_of (instr.Single operation width operand)) operation width operand outcome
     → worked device framed a (register_of s 0) (instr.Single operation width operand)
@@ -292,7 +299,8 @@ push_run laws device framed a s first operation width operand outcome under fits
 
 -- an operation that pushes nothing
 plain_run : Laws
-    → (device : Device) (framed : Bool) (a : Known) (s : ChipState) (first : Option ChipState) (operation : SingleOperation) (width : Width) (operand : Source) (outcome : Outcome ChipState)
+    → (device : Device) (framed : Bool) (a : Known) (s : ChipState) (first : Option ChipState) (operation : SingleOperation) (width : Width)
+    (operand : Source) (outcome : Outcome ChipState)
     → IsUnder device framed a s first → IsInstr (instr.Single operation width operand)
     → MaySingle device s (length_of (instr.Single operation width operand)) operation width operand outcome
     → worked device framed a (register_of s 0) (instr.Single operation width operand)

@@ -49,7 +49,7 @@ use Rattle.msp430_flow.specs.declared.setting.Setting.{Setting}
 use Rattle.msp430_flow.specs.Chip.{BreaksLimit, CanHit, IsProgram, followed_by, msp430_analysis, msp430_flow, onward_of, open_store, push_opens, store_of}
 use Rattle.msp430_flow.specs.Machine.{leaving_of}
 use Rattle.msp430_flow.specs.Running.{may_hit, stored_width, worked}
-use Rattle.msp430_flow.proofs.LawsBelow.{Laws}
+use Rattle.msp430_flow.specs.LawsBelow.{Laws}
 use Rattle.plain_lemmas.specs.Cases.{same_Some}
 use Rattle.plain_lemmas.specs.Members.{in_first, in_none, in_one}
 use Rattle.msp430_flow.proofs.Ways.{open_of}

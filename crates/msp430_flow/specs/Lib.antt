@@ -5,3 +5,4 @@ pub mod Chip
 pub mod Machine
 pub mod Marks
 pub mod Texts
+pub mod LawsBelow

@@ -1,11 +1,13 @@
 //! The laws of the chip.
 
 ghost use Rattle.msp430_flow.specs.Chip.{IsSetting};
+ghost use Rattle.msp430_flow.specs.LawsBelow.{Laws};
 ghost use Rattle.msp430_flow.specs.Machine.{msp430_machine};
 ghost use Rattle.msp430_state.specs.Holding.{Covers};
 
 use crate::chip::Msp430Chip;
 use crate::kept::Kept;
+use chip_analysis::OrderlyChip;
 use chip_law::LawfulChip;
 use irq_frames::known_laws;
 use msp430_alu::{doubles_hold, pushes_hold, singles_hold};
@@ -19,14 +21,29 @@ use msp430_state::state_laws;
 use msp430_status::{single_statuses_hold, statuses_hold};
 use unit_ways::ways_hold;
 
-impl LawfulChip for Msp430Chip {
-    type State = ChipState;
+/// What the laws of the chip rest on.
+fn laws_below()
+    ensures { Laws }
+{
+    known_laws();
+    ways_hold::<Kept>();
+    doubles_hold();
+    singles_hold();
+    pushes_hold();
+    statuses_hold();
+    single_statuses_hold();
+    interrupt_laws();
+    return_laws();
+    resumption_laws();
+    cuts_hold();
+    facts_hold();
+    step_laws();
+    decoding_laws();
+    state_laws();
+}
 
+impl OrderlyChip for Msp430Chip {
     ghost use Rattle.msp430_flow.specs.Chip.{AreAlike};
-
-    ghost machine = { λ setting. msp430_machine setting.device };
-
-    ghost covers = { λ setting. Covers setting.device };
 
     ghost program = { IsSetting };
 
@@ -36,23 +53,21 @@ impl LawfulChip for Msp430Chip {
         self.keeps_rules();
     }
 
-    fn laws() {
-        known_laws();
-        ways_hold::<Kept>();
-        doubles_hold();
-        singles_hold();
-        pushes_hold();
-        statuses_hold();
-        single_statuses_hold();
-        interrupt_laws();
-        return_laws();
-        resumption_laws();
-        cuts_hold();
-        facts_hold();
-        step_laws();
-        decoding_laws();
-        state_laws();
+    fn order_laws() {
+        laws_below();
     }
 
     fn alike_laws() {}
+}
+
+impl LawfulChip for Msp430Chip {
+    type State = ChipState;
+
+    ghost machine = { λ setting. msp430_machine setting.device };
+
+    ghost covers = { λ setting. Covers setting.device };
+
+    fn laws() {
+        laws_below();
+    }
 }

@@ -1,25 +1,18 @@
 -- What a report says of every run of the chip.
-use Rattle.std.specs.Prelude.{◌≡◌, ℕ, Option, List, ◌++◌, Contains, codes}
-use Rattle.call_context.specs.declared.node.Node.{Node}
-use Rattle.call_context.specs.declared.node.Unit.{Unit as WorkUnit}
-use Rattle.call_context.specs.declared.shown.Item.{Item}
+use Rattle.std.specs.Prelude.{ℕ, List, Contains, codes}
 use Rattle.call_context.specs.declared.shown.Cause.{Cause}
 use Rattle.chip_numbers.specs.Single.{Single}
 use Rattle.chip_analysis.specs.Analysis.{Analysis}
 use Rattle.chip_analysis.specs.declared.chip.Work.{Work}
-use Rattle.item_lines.specs.Line.{item_line_of, open_line_of}
+use Rattle.item_lines.specs.Line.{open_line_of}
 use Rattle.chip_law.specs.Machine.{Machine}
 use Rattle.chip_law.specs.Runs.{Meets, GoesWild}
 use Rattle.item_lines.specs.Shown.{HasLine, IsShownIn}
-use Rattle.chip_analysis.specs.Table.{IsUnitOver}
-use Rattle.closing_law.specs.Covered.{IsBroken}
+use Rattle.closed_book.specs.Broken.{IsBroken}
 use Rattle.round_core.specs.Machine.{replay}
 use Rattle.round_core.specs.declared.event.Event.{Event}
-use Rattle.report_text.specs.Report.{last_works}
-
--- the report begins with this text
-abbrev pub Says : List ℕ → List ℕ → Type 0
-Says text report = (rest : List ℕ) × (report ≡ text ++ rest)
+use Rattle.report_bytes.specs.Report.{last_works}
+use Rattle.report_bytes.specs.Shows.{Says}
 
 -- The report says CLOSED. Whatever a run of the chip meets, in any number of steps, has its line in the report, where
 -- instructions have these texts, and no run leaves the model.
@@ -40,9 +33,3 @@ pub record ShowsOpenSites {A : Type 0} (analysis : Analysis A) (journal : List E
   pub some : (work : Work A) × (site : ℕ × Cause) × Contains (last_works analysis journal) work × Contains work.opens site
   pub each : (work : Work A) (pc : ℕ) (cause : Cause) → Contains (last_works analysis journal) work
       → Contains work.opens (pc, cause) → IsOpenSite analysis journal report pc cause
-
--- The report has the line of each item of each work over a table's states.
-abbrev pub ShowsTable : {A : Type 0} → (text_of : ℕ → List ℕ → List ℕ) → Analysis A → (Node → Option A) → (report : List ℕ) → Type 0
-ShowsTable {A = A} text_of analysis table report = (unit : WorkUnit) (at : A) (exit : Option A) (item : Item)
-    → IsUnitOver analysis table unit at exit → Contains (analysis.work unit at exit).items item
-    → HasLine report (item_line_of text_of item)

@@ -1,23 +1,20 @@
 //! What a report says of every run.
 
-ghost use Rattle.std.specs.Prelude.{◌≡◌, true, false, Bool, ℕ, List, IsPermutation};
+ghost use Rattle.std.specs.Prelude.{◌≡◌, true, false, ℕ, List};
 ghost use Rattle.call_context.specs.declared.node.Node.{Node};
 ghost use Rattle.call_context.specs.declared.node.Unit.{Unit as WorkUnit};
 ghost use Rattle.chip_analysis.specs.declared.chip.Work.{Work};
-ghost use Rattle.closing_law.specs.ClosedBook.{HaveSame, IsClosedBook};
-ghost use Rattle.report_text.specs.Promise.{CoversEveryRun, ShowsOpenSites, ShowsTable};
-ghost use Rattle.report_text.specs.Report.{are_closed, closed_report, items_of, last_works, report_of, report_of_journal};
-ghost use Rattle.report_text.specs.Stacks.{GrowsOneWay, HasOneStack};
+ghost use Rattle.closed_book.specs.ClosedBook.{IsClosedBook};
+ghost use Rattle.report_bytes.specs.Report.{are_closed, closed_report, last_works, report_of_journal};
+ghost use Rattle.report_text.specs.Promise.{CoversEveryRun, ShowsOpenSites};
 ghost use Rattle.round_core.specs.Machine.{replay, IsFinished, IsLegalJournal};
-ghost use Rattle.round_core.specs.Table.{table_of};
 ghost use Rattle.round_core.specs.declared.event.Event.{Event as AnEvent};
 
-use chip_analysis::Chip;
+use chip_analysis::OrderlyChip;
 use chip_law::LawfulChip;
-use closing_law::{
-    closed_books_cover_runs, closed_tables_cover_runs, opens_break_limits, tables_have_no_order,
-};
-use round_core::{finished_book_is_its_table, live_works_are_of_units};
+use closed_book::{opens_break_limits, tables_have_no_open};
+use closing_law::{closed_books_cover_runs, works_of_closed_tables_cover_runs};
+use report_bytes::reports_show_works;
 
 /// The report of a finished book without opens covers every run of the chip.
 pub fn closed_reports_cover_runs<C: LawfulChip>()
@@ -27,6 +24,7 @@ pub fn closed_reports_cover_runs<C: LawfulChip>()
         → CoversEveryRun (C.machine base) text_of (report_of_journal text_of (C.analysis base) journal) }
 {
     closed_books_cover_runs::<C>();
+    reports_show_works::<C>();
 }
 
 /// The report of a closed table's works covers every run of the chip.
@@ -35,47 +33,19 @@ pub fn closed_works_cover_runs<C: LawfulChip>()
         → C.program base → IsClosedBook (C.analysis base) nodes works
         → CoversEveryRun (C.machine base) text_of (closed_report text_of works) }
 {
-    closed_tables_cover_runs::<C>();
+    works_of_closed_tables_cover_runs::<C>();
+    tables_have_no_open::<C>();
+    reports_show_works::<C>();
 }
 
 /// The report of a finished book with opens shows each of them, at a location of the book where by its state a stated limit
 /// is broken.
-pub fn open_reports_show_sites<C: LawfulChip>()
+pub fn open_reports_show_sites<C: OrderlyChip>()
     ensures { (base : C.Base) (text_of : ℕ → List ℕ → List ℕ) (journal : List AnEvent) → C.program base
         → IsLegalJournal (C.analysis base) journal → IsFinished (replay (C.analysis base) journal)
         → are_closed (last_works (C.analysis base) journal) ≡ false
         → ShowsOpenSites (C.analysis base) journal (report_of_journal text_of (C.analysis base) journal) }
 {
     opens_break_limits::<C>();
-}
-
-/// The report of a finished book has the line of each item of each work over its table.
-pub fn reports_show_tables<C: Chip>()
-    ensures { (base : C.Base) (text_of : ℕ → List ℕ → List ℕ) (journal : List AnEvent)
-        → IsLegalJournal (C.analysis base) journal → IsFinished (replay (C.analysis base) journal)
-        → ShowsTable text_of (C.analysis base) (table_of (replay (C.analysis base) journal).nodes)
-        (report_of_journal text_of (C.analysis base) journal) }
-{
-    finished_book_is_its_table::<C>();
-    live_works_are_of_units::<C>();
-}
-
-/// In whatever order works stand, whose stacks grow one way, they have the same report.
-pub fn reports_have_no_order<C: Chip>()
-    ensures { (text_of : ℕ → List ℕ → List ℕ) (finished : Bool) (works others : List (Work C.Abs))
-        → HaveSame works others → GrowsOneWay (items_of works)
-        → report_of text_of finished works ≡ report_of text_of finished others }
-{}
-
-/// Closed books of one table have the same report, in whatever order nodes and works stand, where the stacks of the chip
-/// grow one way.
-pub fn closed_reports_are_of_tables<C: Chip>()
-    ensures { (base : C.Base) (text_of : ℕ → List ℕ → List ℕ) → HasOneStack (C.analysis base)
-        → (nodes others : List (Node × C.Abs)) (works more : List (WorkUnit × Work C.Abs))
-        → IsPermutation nodes others → IsClosedBook (C.analysis base) nodes works
-        → IsClosedBook (C.analysis base) others more
-        → closed_report text_of works ≡ closed_report text_of more }
-{
-    tables_have_no_order::<C>();
-    reports_have_no_order::<C>();
+    reports_show_works::<C>();
 }

@@ -1,17 +1,19 @@
 //! Printing a report.
 
 ghost use Rattle.std.specs.Prelude.{◌≡◌, OnOk, OnErr, IfErr, List, ℕ};
-ghost use Rattle.closing_law.specs.ClosedBook.{table_in};
-ghost use Rattle.report_text.specs.Promise.{CoversEveryRun, ShowsTable};
-ghost use Rattle.report_text.specs.Report.{IsReport, closed_report};
+ghost use Rattle.closed_book.specs.ClosedBook.{table_in};
+ghost use Rattle.report_bytes.specs.Report.{IsReport, closed_report};
+ghost use Rattle.report_bytes.specs.Shows.{ShowsTable};
+ghost use Rattle.report_text.specs.Promise.{CoversEveryRun};
 ghost use Rattle.round_core.specs.Machine.{replay};
 ghost use Rattle.streams.specs.Stream.{AppendsPrefix, HasRisen, appended};
 
-use crate::report::{closed_report_of, report_of};
+use crate::laws::closed_works_cover_runs;
 use chip_analysis::Chip;
 use chip_law::LawfulChip;
-use closing_law::ClosedBook;
+use closed_book::ClosedBook;
 use item_lines::InstrText;
+use report_bytes::{closed_report_of, report_of};
 use round_core::Book;
 use std::alloc::Global;
 use streams::{PrintError, Sink, write_all};
@@ -49,6 +51,15 @@ pub fn print_book<C: Chip + InstrText, K: Sink>(
     put_text(sink, report.text.as_slice())
 }
 
+/// The report of a closed book covers every run of the chip.
+fn closed_report_covers<C: LawfulChip + InstrText>(chip: &C, book: &ClosedBook<C>)
+    ensures { CoversEveryRun (C.machine book.now.base) (C.text_of chip.now)
+        (closed_report (C.text_of chip.now) book.now.works) }
+{
+    book.is_of_closed_table();
+    closed_works_cover_runs::<C>();
+}
+
 /// Writes the report of a closed book. It says CLOSED, covers every run of the chip, and shows the book's table.
 pub fn print_closed<C: LawfulChip + InstrText, K: Sink>(
     alloc: Global,
@@ -68,6 +79,7 @@ pub fn print_closed<C: LawfulChip + InstrText, K: Sink>(
     ensures cause { IfErr result (λ error. error ≡ PrintError.Write → HasRisen (K.faults sink.old) (K.faults sink.new)) }
     ensures unwritten { IfErr result (λ error. error ≡ PrintError.Memory → K.held sink.new ≡ K.held sink.old) }
 {
+    closed_report_covers(chip, book);
     let report = closed_report_of(alloc, chip, book)?;
     put_text(sink, report.as_slice())
 }

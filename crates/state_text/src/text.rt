@@ -4,8 +4,7 @@ ghost use Rattle.std.specs.Prelude.{◌≡◌, ◌≤◌, ◌++◌, IfOk, OnOk};
 ghost use Rattle.state_text.specs.Texts.{AreTexts, StateTexts};
 
 use call_context::Node;
-use chip_analysis::Chip;
-use chip_law::LawfulChip;
+use chip_analysis::{Chip, OrderlyChip};
 use no_memory::Memory;
 use node_fields::Outside;
 use std::alloc::Global;
@@ -42,7 +41,7 @@ pub trait StateText: Chip {
 }
 
 /// A chip whose texts are proved to be exact, for generic code to use.
-pub trait LawfulText: LawfulChip + StateText {
+pub trait LawfulText: OrderlyChip + StateText {
     /// Each state in form is read again, and nothing else is.
     fn texts_are_exact()
         ensures { (b : Self.Base) → Self.program b → AreTexts (Self.analysis b) (Self.texts b) };

@@ -140,7 +140,8 @@ frame_only width digits place false (Some entry) form test = absurd (false≢tru
 frame_only width digits place true (Some entry) form test = (form.0.0, form.0.1.0, form.0.1.1)
 
 -- a value is made of its parts, which are those of the value again
-module _ {A : Type 0} (width digits : ℕ) (place : Spelling ℕ) (framed : Bool) (to : Form × Option Entry → A) (from : A → Form × Option Entry) (again : (a : A) → to (from a) ≡ a) where
+module _ {A : Type 0} (width digits : ℕ) (place : Spelling ℕ) (framed : Bool) (to : Form × Option Entry → A)
+    (from : A → Form × Option Entry) (again : (a : A) → to (from a) ≡ a) where
   value_narrow : (a : A) → IsValueIn (16 ^ width) digits place.Form framed (from a)
       → (told_by (remembering width digits place framed) to from).Form a
   value_narrow a form = let back = frame_back width digits place framed (from a).1 form.1 in (((form.0, back.0), back.1), again a)

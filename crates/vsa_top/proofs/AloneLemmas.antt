@@ -18,7 +18,7 @@ use Rattle.mcs51_flow.specs.Standing.{instr_text as mcs51_text}
 use Rattle.mcs51_flow.specs.Chip.{mcs51_analysis}
 use Rattle.msp430_flow.specs.Standing.{instr_text as msp430_text}
 use Rattle.msp430_flow.specs.Chip.{msp430_analysis}
-use Rattle.report_text.specs.Report.{are_closed, last_works, report_of_journal}
+use Rattle.report_bytes.specs.Report.{are_closed, last_works, report_of_journal}
 use Rattle.vsa_top.specs.declared.outcome.Status.{Status}
 use Rattle.vsa_top.specs.declared.outcome.Status.TheVariants as status
 use Rattle.vsa_words.specs.declared.reading.Reading.{Reading}

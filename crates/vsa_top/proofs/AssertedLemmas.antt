@@ -14,7 +14,7 @@ use Rattle.chip_analysis.specs.Analysis.{Analysis}
 use Rattle.item_lines.specs.Line.{item_line_of}
 use Rattle.chip_analysis.specs.declared.chip.Work.{Work}
 use Rattle.chip_numbers.specs.declared.space.Space.{Space}
-use Rattle.report_text.specs.Report.{IsReportOf, are_closed, last_works, report_of}
+use Rattle.report_bytes.specs.Report.{IsReportOf, are_closed, last_works, report_of}
 use Rattle.round_core.specs.Kept.{live_pairs}
 use Rattle.round_core.specs.Machine.{replay, IsClosed}
 use Rattle.round_core.specs.declared.event.Event.{Event}

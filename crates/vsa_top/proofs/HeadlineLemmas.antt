@@ -32,7 +32,7 @@ use Rattle.run_trace.specs.declared.trace.End.{End}
 use Rattle.run_trace.specs.declared.trace.End.TheVariants as ended
 use Rattle.run_trace.specs.Trace.{Ended}
 use Rattle.report_text.specs.Promise.{CoversEveryRun, ShowsOpenSites}
-use Rattle.report_text.specs.Report.{are_closed, last_works, report_of_journal}
+use Rattle.report_bytes.specs.Report.{are_closed, last_works, report_of_journal}
 use Rattle.vsa_top.specs.declared.outcome.Status.{Status}
 use Rattle.vsa_top.specs.declared.outcome.Status.TheVariants.{Done, Open, ReadFault, WriteFault, Memory}
 use Rattle.vsa_top.specs.Answer.{Analyses, Answers, Ends, IsAnalysed, IsAnalysedOn, IsAsserted, IsFollowed, IsReportedOn, IsChecked, IsCheckedOn, IsDecided, IsDecidedOn, IsImageReply, IsReply, IsRun, IsJudged, TellsNoFault, run_under, status_of_analysis, status_of_end, status_of_verdict}

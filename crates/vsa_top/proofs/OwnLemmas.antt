@@ -18,8 +18,8 @@ use Rattle.msp430_flow.specs.Chip.{msp430_analysis, IsSetting as IsMsp430Program
 use Rattle.msp430_flow.specs.Standing.{instr_text as msp430_text}
 use Rattle.msp430_flow.specs.Texts.{msp430_texts}
 use Rattle.msp430_flow.specs.declared.setting.Setting.{Setting as Msp430Setting}
-use Rattle.report_text.specs.Report.{are_closed, last_works, report_of_journal}
-use Rattle.report_text.specs.Stacks.{HasOneStack}
+use Rattle.report_bytes.specs.Report.{are_closed, last_works, report_of_journal}
+use Rattle.report_bytes.specs.Stacks.{HasOneStack}
 use Rattle.round_core.specs.Kept.{nodes_of}
 use Rattle.round_core.specs.Machine.{replay, IsClosed, IsFinished, IsLegalJournal}
 use Rattle.round_core.specs.declared.event.Event.{Event}

@@ -3,17 +3,17 @@ use Rattle.std.proofs.Common.{◌≡◌, ◌<◌, ℕ, Bool, true, Option, None,
 use Rattle.std.proofs.lemmas.List.Elements.{All-cons, All-nil}
 use Rattle.std.specs.Prelude.{◌&&◌, IfOk, Result, Ok, Err}
 use Rattle.chip_analysis.specs.Analysis.{Analysis}
-use Rattle.closing_law.specs.Bounded.{AreBounded}
+use Rattle.closed_book.specs.Bounded.{AreBounded}
 use Rattle.round_core.specs.declared.event.Event.{Event}
 use Rattle.round_core.specs.declared.event.Event.TheVariants.{Claim, Post, GiveBack}
 use Rattle.round_core.specs.Counts.{seat_of}
 use Rattle.round_core.specs.Machine.{replay, IsFinished, IsLegalJournal}
 use Rattle.worker_rounds.specs.Turns.{AreTurns}
 use Rattle.image.specs.declared.chip_name.ChipName.{ChipName}
-use Rattle.report_text.specs.Deepest.{deepest_of}
-use Rattle.report_text.specs.Report.{IsReportOf, are_closed, counts_of, items_of, last_works, report_of, reported_lines}
-use Rattle.report_text.specs.declared.deepest.Deepest.{Deepest}
-use Rattle.report_text.specs.declared.lines.Counts.{Counts}
+use Rattle.report_bytes.specs.Deepest.{deepest_of}
+use Rattle.report_bytes.specs.Report.{IsReportOf, are_closed, counts_of, items_of, last_works, report_of, reported_lines}
+use Rattle.report_bytes.specs.declared.deepest.Deepest.{Deepest}
+use Rattle.report_bytes.specs.declared.lines.Counts.{Counts}
 use Rattle.vsa_top.specs.declared.outcome.Status.{Status}
 use Rattle.state_text.specs.Texts.{StateTexts}
 use Rattle.vsa_top.specs.Answer.{IsAnalysed, IsAnalysis, IsFollowed, IsReported, IsSummary, status_of_analysis}

@@ -6,7 +6,7 @@ use Rattle.ihex_read.specs.Names.{fault_name}
 use Rattle.streams.specs.Stream.{appended, AppendsPrefix}
 use Rattle.analysis_limits.specs.declared.limits.Limits.{Limits}
 use Rattle.chip_analysis.specs.Analysis.{Analysis}
-use Rattle.closing_law.specs.Bounded.{AreBounded}
+use Rattle.closed_book.specs.Bounded.{AreBounded}
 use Rattle.round_core.specs.declared.event.Event.{Event}
 use Rattle.round_core.specs.Counts.{seat_of}
 use Rattle.round_core.specs.Machine.{replay, IsLegalJournal, IsFinished}
@@ -14,8 +14,8 @@ use Rattle.worker_rounds.specs.Turns.{AreTurns}
 use Rattle.run_trace.specs.declared.trace.End.{End}
 use Rattle.run_trace.specs.declared.trace.End.TheVariants as ended
 use Rattle.run_trace.specs.Trace.{Ended}
-use Rattle.report_text.specs.Deepest.{deepest_of}
-use Rattle.report_text.specs.Report.{are_closed, counts_of, items_of, last_works, report_of_journal, reported_lines}
+use Rattle.report_bytes.specs.Deepest.{deepest_of}
+use Rattle.report_bytes.specs.Report.{are_closed, counts_of, items_of, last_works, report_of_journal, reported_lines}
 use Rattle.mcs51_flow.specs.Standing.{instr_text as mcs51_text}
 use Rattle.mcs51_flow.specs.Chip.{mcs51_analysis}
 use Rattle.msp430_flow.specs.Standing.{instr_text as msp430_text}

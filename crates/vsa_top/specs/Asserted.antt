@@ -15,7 +15,7 @@ use Rattle.chip_numbers.specs.declared.space.Space.{Space}
 use Rattle.chip_numbers.specs.declared.space.Space.TheVariants.{Mem, Ram, Sfr, Xram, Code}
 use Rattle.mcs51_flow.specs.Machine.{mcs51_machine}
 use Rattle.msp430_flow.specs.Machine.{msp430_machine}
-use Rattle.report_text.specs.Report.{last_works}
+use Rattle.report_bytes.specs.Report.{last_works}
 use Rattle.round_core.specs.declared.event.Event.{Event}
 use Rattle.vsa_top.specs.Scripts.{second_limit}
 use Rattle.vsa_top.specs.Settings.{device_of}

@@ -2,9 +2,9 @@
 use Rattle.std.specs.Prelude.{ℕ, Bool, Option, List, ◌++◌, codes, ◌∷◌}
 use Rattle.std.specs.Fmt.{decimal}
 use Rattle.image.specs.declared.chip_name.ChipName.{ChipName}
-use Rattle.report_text.specs.Report.{head_line, summary_line}
-use Rattle.report_text.specs.declared.deepest.Deepest.{Deepest}
-use Rattle.report_text.specs.declared.lines.Counts.{Counts}
+use Rattle.report_bytes.specs.Report.{head_line, summary_line}
+use Rattle.report_bytes.specs.declared.deepest.Deepest.{Deepest}
+use Rattle.report_bytes.specs.declared.lines.Counts.{Counts}
 use Rattle.vsa_words.specs.Words.{chip_word}
 
 unfoldable pub count_line : (letter count : ℕ) → List ℕ

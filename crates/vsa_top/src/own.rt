@@ -19,7 +19,7 @@ use cert_verdict::{own_certificates_are_closed, verdicts_are_one};
 use ihex_read::{image_or_fault, images_keep_rules};
 use mcs51_flow::{Mcs51Chip, stacks_grow_by_bytes};
 use msp430_flow::{Msp430Chip, stacks_grow_by_words};
-use report_text::closed_books_are_told;
+use report_bytes::closed_books_are_told;
 
 /// What an analysis writes with a certificate and Done is a report and its own certificate behind it. Where a report's own
 /// certificate is checked, and isn't longer than a second text may be, the answer is this report with Done, unless something

@@ -10,14 +10,14 @@ ghost use Rattle.vsa_words.specs.declared.reading.Reading.TheVariants.{Analyse, 
 use crate::outcome::Status;
 use crate::reply::{Reply, book_alone, status_of};
 use chip_law::LawfulChip;
-use closing_law::books_are_bounded;
+use closed_book::books_are_bounded;
 use dense_text::Text;
 use image::{ChipName, Image};
 use item_lines::InstrText;
 use mcs51_flow::Mcs51Chip;
 use msp430_flow::Msp430Chip;
 use no_memory::Memory;
-use report_text::{Counts, Report, head_line, push_summary, report_of};
+use report_bytes::{Counts, Report, head_line, push_summary, report_of};
 use round_core::Book;
 use std::alloc::{AllocError, Global};
 use vsa_words::{Target, Task, word_of};

@@ -7,7 +7,7 @@ pub returns : goal.returns
 returns g c = λ base journal program legal finished none_open.
     let m = g.C.Chip.analysis base in
     let b = replay m journal in
-    let laws = c.laws.ensures base program in
+    let laws = c.order_laws.ensures base program in
     let listed = c.live_works_are_of_units.ensures.listed base b in
     let closed = is_closed b listed finished none_open in
     are_covering (g.C.LawfulChip.machine base) m (g.C.LawfulChip.covers base) b listed

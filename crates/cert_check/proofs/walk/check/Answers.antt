@@ -1,5 +1,5 @@
 use Rattle.std.proofs.Common.{sym, ◌∙◌, subst}
-use Rattle.closing_law.specs.ClosedBook.{IsClosedBook}
+use Rattle.closed_book.specs.ClosedBook.{IsClosedBook}
 use Rattle.cert_text.specs.Writing.{AreNodes}
 use Rattle.cert_check.specs.Refusal.{works_in}
 use Rattle.cert_check.proofs.ClosedLemmas.{closed_book, no_refusal}

@@ -1,6 +1,6 @@
 use Rattle.std.proofs.Common.{◌≡◌, None, Some, refl, ap, ◌∙◌, subst}
-use Rattle.closing_law.specs.ClosedBook.{Closed, IsClosedBook}
-use Rattle.report_text.specs.Report.{closed_report}
+use Rattle.closed_book.specs.ClosedBook.{Closed, IsClosedBook}
+use Rattle.report_bytes.specs.Report.{closed_report}
 use Rattle.cert_check.specs.Refusal.{Tells, refusal_of}
 use Rattle.cert_verdict.specs.Lines.{refusal_line}
 use Rattle.cert_verdict.specs.Verdict.IsVerdict.{closed, refused}
@@ -13,7 +13,7 @@ returns-in_ok-closed_report_of-in-Ok g c = λ text read.
     let outside = (g.C.StateText.texts cert.base).outside in
     let same = c.in-Ok.ensures.closed in
     closed cert.rows read (subst (λ n. refusal_of a outside cert.rows n ≡ None) c.requires.first c.in-Ok.ensures.held)
-    (subst (λ (v : Closed _ _). IsClosedBook (g.C.Chip.analysis v.base) v.nodes v.works) same c.covers_runs.ensures.closed) refl
+    (subst (λ (v : Closed _ _). IsClosedBook (g.C.Chip.analysis v.base) v.nodes v.works) same c.is_of_closed_table.ensures.closed) refl
     (c.in_ok-closed_report_of-in-Ok.ensures.report ∙ ap (λ (v : Closed _ _). closed_report (g.C.InstrText.text_of c.args.chip.now) v.works) same)
 
 pub returns-in_ok-refusal_line-in-Err-Refused : goal.returns-in_ok-refusal_line-in-Err-Refused

@@ -1,6 +1,6 @@
 use Rattle.item_lines.specs.Line.{item_line_of}
-use Rattle.report_text.specs.Report.{last_works}
-use Rattle.report_text.specs.ClosedWorks.{none_open}
+use Rattle.report_bytes.specs.Report.{last_works}
+use Rattle.report_bytes.specs.ClosedWorks.{none_open}
 use Rattle.vsa_top.proofs.asserting.assertions_hold.Goals as goal
 
 pub returns : goal.returns

@@ -5,7 +5,7 @@ use Rattle.vsa_top.proofs.ReplyLemmas.{if_ok}
 use Rattle.vsa_top.proofs.asserting.chip_decision.Goals as goal
 
 pub decided-requires-clause-program : goal.decided-requires-clause-program
-decided-requires-clause-program g c = λ lifetimes outlive. subst g.C.LawfulChip.program (sym c.in_ok-book.ensures.base) c.is_program.ensures
+decided-requires-clause-program g c = λ lifetimes outlive. subst g.C.OrderlyChip.program (sym c.in_ok-book.ensures.base) c.is_program.ensures
 
 pub returns : goal.returns
 returns g c =

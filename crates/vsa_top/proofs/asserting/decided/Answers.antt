@@ -3,10 +3,10 @@ use Rattle.std.specs.Prelude.{◌≡◌, IfOk, flat_map}
 use Rattle.std.specs.Map.{values_of}
 use Rattle.assert_check.specs.Assertions.{broken_of}
 use Rattle.item_lines.specs.Line.{item_line_of}
-use Rattle.closing_law.specs.ClosedBook.{Closed}
+use Rattle.closed_book.specs.ClosedBook.{Closed}
 use Rattle.vsa_top.specs.Answer.{IsAnalysis, IsDecided}
 use Rattle.vsa_top.specs.Asserted.{broken_text, status_of_broken}
-use Rattle.report_text.specs.Report.{IsReportOf}
+use Rattle.report_bytes.specs.Report.{IsReportOf}
 use Rattle.round_core.specs.Kept.{Kept}
 use Rattle.round_core.specs.Machine.{replay}
 use Rattle.vsa_top.specs.declared.outcome.Status.TheVariants as status

@@ -1,6 +1,6 @@
 use Rattle.std.proofs.Common.{subst}
 use Rattle.round_core.specs.Machine.{replay}
-use Rattle.report_text.specs.Report.{IsReportOf}
+use Rattle.report_bytes.specs.Report.{IsReportOf}
 use Rattle.vsa_top.specs.Answer.{IsAnalysis}
 use Rattle.vsa_top.proofs.ReplyLemmas.{reported_by}
 use Rattle.vsa_top.proofs.reply.reported.Goals as goal

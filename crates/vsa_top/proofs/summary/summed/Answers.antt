@@ -1,7 +1,7 @@
 use Rattle.std.proofs.Common.{◌≡◌, subst, None}
 use Rattle.round_core.specs.Machine.{replay}
-use Rattle.report_text.specs.Deepest.{deepest_of}
-use Rattle.report_text.specs.Report.{IsReportOf, counts_of, items_of, last_works, reported_lines}
+use Rattle.report_bytes.specs.Deepest.{deepest_of}
+use Rattle.report_bytes.specs.Report.{IsReportOf, counts_of, items_of, last_works, reported_lines}
 use Rattle.vsa_top.specs.Answer.{IsAnalysis}
 use Rattle.vsa_top.proofs.ReplyLemmas.{summary_by}
 use Rattle.vsa_top.proofs.summary.summed.Goals as goal

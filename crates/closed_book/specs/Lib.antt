@@ -1,0 +1,4 @@
+pub mod BookFacts
+pub mod Bounded
+pub mod Broken
+pub mod ClosedBook

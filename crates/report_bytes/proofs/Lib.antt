@@ -1,0 +1,11 @@
+pub mod ClosingLemmas
+pub mod CountLemmas
+pub mod GreatestLemmas
+pub mod LeastLemmas
+pub mod OneStackLemmas
+pub mod OrderLemmas
+pub mod Places
+pub mod ReportLemmas
+pub mod SetLemmas
+pub mod ShownLemmas
+pub mod ShowsLemmas

@@ -1,0 +1,6 @@
+pub mod ClosedWorks
+pub mod Counting
+pub mod Deepest
+pub mod Report
+pub mod Shows
+pub mod Stacks
