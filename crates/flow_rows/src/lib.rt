@@ -1,4 +1,4 @@
-//! Rows of the analyses of both chips, asked by themselves, and of copies of devices.
+//! Rows of the analyses of both chips, asked by themselves, of copies of devices, and of printing.
 #![tactic(auto)]
 
 #[cfg(test)]
@@ -9,3 +9,5 @@ mod images;
 mod mcs51_marks;
 #[cfg(test)]
 mod msp430_marks;
+#[cfg(test)]
+mod printing;
