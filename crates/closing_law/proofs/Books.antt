@@ -1,43 +1,21 @@
--- From the runs that a table covers to the works that show them.
-use Rattle.std.proofs.Common.{◌≡◌, Option, Some, List, subst}
-use Rattle.std.specs.Prelude.{Contains}
+-- From the runs that a table covers to the works that show them, and when a book has such a table.
+use Rattle.std.proofs.Common.{List}
 use Rattle.std.specs.Map.{values_of}
 use Rattle.std.proofs.lemmas.Map.Made.{Contains-values_of}
 use Rattle.call_context.specs.declared.node.Node.{Node}
 use Rattle.call_context.specs.declared.node.Unit.{Unit as WorkUnit}
 use Rattle.chip_analysis.specs.declared.chip.Work.{Work}
 use Rattle.chip_analysis.specs.Analysis.{Analysis}
-use Rattle.chip_analysis.specs.Table.{IsUnitOver}
 use Rattle.chip_law.specs.Laws.{Cover}
 use Rattle.chip_law.specs.Machine.{Machine}
 use Rattle.closed_book.specs.BookFacts.{AreListed}
 use Rattle.closed_book.specs.ClosedBook.{IsClosedBook, NoneIsOpen, table_in}
 use Rattle.closing_law.specs.Covered.{AreCovering, CoversRuns}
 use Rattle.round_core.specs.Kept.{live_works}
-use Rattle.round_core.specs.Machine.{BookState, Done, done_at, IsUnit, IsFinished, IsClosed}
-use Rattle.round_core.specs.Table.{table_of}
-
-abbrev AreKnown : {A : Type 0} → Analysis A → BookState A → Type 0
-AreKnown {A = A} m b = (unit : WorkUnit) (at : A) (exit : Option A) → IsUnitOver m (table_of b.nodes) unit at exit → IsUnit b unit
-
-abbrev AreWorked : {A : Type 0} → Analysis A → BookState A → Type 0
-AreWorked {A = A} m b = (unit : WorkUnit) (at : A) (exit : Option A) → IsUnitOver m (table_of b.nodes) unit at exit
-    → (d : Done A) × (done_at b.done unit ≡ Some d) × (d.work ≡ m.work unit at exit)
+use Rattle.round_core.specs.Machine.{BookState, IsFinished, IsClosed}
 
 pub is_closed : {A : Type 0} (b : BookState A) → AreListed b → IsFinished b → NoneIsOpen (live_works b) → IsClosed b
 is_closed b listed finished none = record { finished = finished; no_open = λ unit d u found. none d.work (listed unit d u found) }
-
-pub are_covering : {S A : Type 0} (machine : Machine S) (m : Analysis A) (covers : Cover S A) (b : BookState A) → AreListed b → AreKnown m b
-    → AreWorked m b → CoversRuns machine m covers (table_of b.nodes) → AreCovering machine (live_works b)
-are_covering machine m covers b listed known worked runs = record {
-  shows = λ n item met. let shown = runs.shows n item met in
-      let d = worked shown.unit shown.at shown.exit shown.is_unit in (
-        m.work shown.unit shown.at shown.exit,
-        subst (Contains (live_works b)) d.2 (listed shown.unit d.0 (known shown.unit shown.at shown.exit shown.is_unit) d.1),
-        shown.shows,
-      );
-  stays = runs.stays;
-}
 
 -- the works of a closed book cover the runs that its table covers
 pub works_cover : {S A : Type 0} (machine : Machine S) (m : Analysis A) (covers : Cover S A) (nodes : List (Node × A)) (works : List (WorkUnit × Work A))

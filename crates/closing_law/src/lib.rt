@@ -14,10 +14,9 @@ ghost use Rattle.round_core.specs.Machine.{replay, IsFinished, IsLegalJournal};
 ghost use Rattle.round_core.specs.declared.event.Event.{Event};
 
 use chip_law::LawfulChip;
-pub use closed_book::{ClosedBook, read_closed, read_closed_with_journal};
-use round_core::{
-    closed_book_has_closed_table, finished_book_is_its_table, live_works_are_of_units,
-};
+use closed_book::closed_book_is_its_table;
+pub use closed_book::{ClosedBook, read_closed};
+use round_core::live_works_are_of_units;
 
 /// Over a closed table every run stands, at each state, under some location with some suspended states. So each item
 /// that is met is among the items of the table's works, and no run leaves the model.
@@ -45,11 +44,9 @@ pub fn closed_books_cover_runs<C: LawfulChip>()
         → NoneIsOpen (live_works (replay (C.analysis base) journal))
         → AreCovering (C.machine base) (live_works (replay (C.analysis base) journal)) }
 {
-    closed_tables_cover_runs::<C>();
-    closed_book_has_closed_table::<C>();
-    finished_book_is_its_table::<C>();
+    closed_book_is_its_table::<C>();
+    works_of_closed_tables_cover_runs::<C>();
     live_works_are_of_units::<C>();
-    C::order_laws();
 }
 
 /// Every run stands, at each state, under a location of the table of a closed book. Its works show whatever a run meets, and no

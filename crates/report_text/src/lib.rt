@@ -13,5 +13,4 @@ mod print;
 
 pub use laws::{closed_reports_cover_runs, closed_works_cover_runs, open_reports_show_sites};
 pub use print::{print_book, print_closed};
-pub use report_bytes::{Report, closed_report_of, report_of};
 pub use streams::PrintError;
