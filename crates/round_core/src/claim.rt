@@ -87,6 +87,24 @@ fn ticket_of<C: Chip>(
     }
 }
 
+/// The same with what nodes hold, if it is asked for and some unit is out.
+fn ticket_at<C: Chip>(
+    chip: &C,
+    parts: &Parts<C::Abs>,
+    seat: u32,
+    unit: &Unit,
+    place: Place,
+    meets: bool,
+) -> Result<Ticket<C>, Memory>
+    ensures { IfOk result (IsTicketOf parts.now.nodes.rows seat unit.now) }
+{
+    let alloc = parts.nodes.allocator();
+    // Who works alone makes the posts before anyone else looks at the book: there is nothing to look ahead of.
+    let meets = meets && !parts.turns.is_empty();
+    let met = met_at(alloc, chip, parts, unit, place, meets)?;
+    ticket_of(alloc, chip, &parts.nodes, seat, unit, place, met)
+}
+
 impl<C: Chip> Book<C> {
     /// Takes out the first unit that can be claimed, with what nodes hold or without.
     fn claim_with(&mut self, chip: &C, seat: u32, meets: bool) -> Result<Claimed<C>, Memory>
@@ -101,12 +119,11 @@ impl<C: Chip> Book<C> {
                 Claimed::Idle
             });
         };
-        let alloc = self.parts.nodes.allocator();
-        // Who works alone makes the posts before anyone else looks at the book: there is nothing to look ahead of.
-        let meets = meets && !self.parts.turns.is_empty();
-        let met = met_at(alloc, chip, &self.parts, &unit, place, meets)?;
-        let ticket = ticket_of(alloc, chip, &self.parts.nodes, seat, &unit, place, met)?;
-        self.parts.take_out(seat, &unit, place)?;
+        let ticket = ticket_at(chip, &self.parts, seat, &unit, place, meets)?;
+        if let Err(memory) = self.parts.take_out(seat, &unit, place) {
+            drop(ticket);
+            return Err(memory);
+        }
         Ok(Claimed::Ticket(ticket))
     }
 

@@ -92,15 +92,23 @@ impl<A> Parts<A> {
     {
         match place {
             Place::One(node) => {
-                let (node, _, at) = self.nodes.at(node)?;
-                let unit = one_of(node)?;
-                Some((unit, Versions { at, exit: 0 }))
+                if let Some((node, _, at)) = self.nodes.at(node)
+                    && let Some(unit) = one_of(node)
+                {
+                    Some((unit, Versions { at, exit: 0 }))
+                } else {
+                    None
+                }
             }
             Place::Back(to, from) => {
-                let (node, _, at) = self.nodes.at(to)?;
-                let (left, _, exit) = self.nodes.at(from)?;
-                let unit = self.back_of(to, node, left)?;
-                Some((unit, Versions { at, exit }))
+                if let Some((node, _, at)) = self.nodes.at(to)
+                    && let Some((left, _, exit)) = self.nodes.at(from)
+                    && let Some(unit) = self.back_of(to, node, left)
+                {
+                    Some((unit, Versions { at, exit }))
+                } else {
+                    None
+                }
             }
         }
     }

@@ -163,9 +163,10 @@ impl<K: Key, V, M: Copy> Table<K, V, M> {
         ensures row { MatchOption result (length self.now.rows ≤ place) (λ found. slice_get self.now.rows place ≡ Some (found.0.now, (found.1.now, found.2))) }
         ensures mark { IfSome result (λ found. lookup (K.eq found.0.now) (map mark_part self.now.rows) ≡ Some found.2) }
     {
-        let (key, mark) = self.marks.get_index(place)?;
-        let (_, value) = self.values.get(place)?;
-        Some((key, value, *mark))
+        match (self.marks.get_index(place), self.values.get(place)) {
+            (Some((key, mark)), Some((_, value))) => Some((key, value, *mark)),
+            _ => None,
+        }
     }
 
     /// Room for more rows. They stay as they are.
