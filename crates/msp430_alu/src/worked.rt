@@ -269,14 +269,23 @@ pub fn double<M: Cells>(
         &target,
         carry,
     );
-    put_result(here, &mut after, operation, width, &to, word)?;
+    if let Err(memory) = put_result(here, &mut after, operation, width, &to, word) {
+        drop(after);
+        return Err(memory);
+    }
     set_flag_bits(&mut after, flags);
-    Ok(Worked {
-        after,
-        next: double_next(operation, &to, &word, here.behind()),
-        accesses: double_accesses(alloc, here, operation, width, &from, &to)?,
-        store: double_store(here.device, operation, width, &to),
-    })
+    match double_accesses(alloc, here, operation, width, &from, &to) {
+        Ok(accesses) => Ok(Worked {
+            after,
+            next: double_next(operation, &to, &word, here.behind()),
+            accesses,
+            store: double_store(here.device, operation, width, &to),
+        }),
+        Err(memory) => {
+            drop(after);
+            Err(memory)
+        }
+    }
 }
 
 /// What an instruction with one operand makes of what is known of a state, but for PUSH and CALL, which [`push`] makes. SWPB
@@ -301,14 +310,23 @@ pub fn single<M: Cells>(
     let (word, flags) = single_result(operation, width, &held_so, carry_of(here.state));
     let mut after = here.state.copy(alloc)?;
     grow(&mut after, &counted, width, operand);
-    put(here, &mut after, width, &from, word)?;
+    if let Err(memory) = put(here, &mut after, width, &from, word) {
+        drop(after);
+        return Err(memory);
+    }
     set_flag_bits(&mut after, flags);
-    Ok(Worked {
-        after,
-        next: next_by(&from, &word, behind),
-        accesses: two_accesses(alloc, here, width, &from, width, &from)?,
-        store: store_of(here.device, width, &from),
-    })
+    match two_accesses(alloc, here, width, &from, width, &from) {
+        Ok(accesses) => Ok(Worked {
+            after,
+            next: next_by(&from, &word, behind),
+            accesses,
+            store: store_of(here.device, width, &from),
+        }),
+        Err(memory) => {
+            drop(after);
+            Err(memory)
+        }
+    }
 }
 
 /// Where the operand of PUSH or CALL stands and what it holds. Behind it SP is as before.
@@ -354,11 +372,20 @@ pub fn push<M: Cells>(
     lower(&mut after);
     let top = Reach::InMemory(after.sp);
     let value = pushed(operation, width, word, behind);
-    put(here, &mut after, Width::Word, &top, value)?;
-    Ok(Worked {
-        after,
-        next: called_next(operation, width, &word, behind),
-        accesses: two_accesses(alloc, here, width, &from, Width::Word, &top)?,
-        store: store_of(here.device, Width::Word, &top),
-    })
+    if let Err(memory) = put(here, &mut after, Width::Word, &top, value) {
+        drop(after);
+        return Err(memory);
+    }
+    match two_accesses(alloc, here, width, &from, Width::Word, &top) {
+        Ok(accesses) => Ok(Worked {
+            after,
+            next: called_next(operation, width, &word, behind),
+            accesses,
+            store: store_of(here.device, Width::Word, &top),
+        }),
+        Err(memory) => {
+            drop(after);
+            Err(memory)
+        }
+    }
 }
