@@ -1,6 +1,5 @@
 //! Calls on known bits and digits over all samples.
 
-use crate::calls::over_pairs;
 use crate::operations::CarryOut;
 use crate::sums::Sum;
 use value_bits::{Lowest, Top, Tri, w8, w16};
@@ -18,22 +17,18 @@ fn number_of(bit: Tri) -> u32 {
     }
 }
 
-/// Decimal sums of each two sets, with each carry.
-pub fn decimal_sums(all: &[Vs8]) -> Sum {
-    over_pairs(all, |sum, one, other| {
-        for carry in BITS {
-            sum.add_set(&w8::decimal_add(one, other, carry));
-        }
-    })
+/// Adds the decimal sums of two sets, with each carry.
+pub fn add_decimal_sums(sum: &mut Sum, one: &Vs8, other: &Vs8) {
+    for carry in BITS {
+        sum.add_set(&w8::decimal_add(one, other, carry));
+    }
 }
 
-/// The carry of sums of each two sets, with each carry.
-pub fn carries(all: &[Vs8]) -> Sum {
-    over_pairs(all, |sum, one, other| {
-        for carry in BITS {
-            sum.add(number_of(w8::agreed(&CarryOut, one, other, carry)));
-        }
-    })
+/// Adds the carry of the sum of two sets, with each carry.
+pub fn add_carries(sum: &mut Sum, one: &Vs8, other: &Vs8) {
+    for carry in BITS {
+        sum.add(number_of(w8::agreed(&CarryOut, one, other, carry)));
+    }
 }
 
 /// The bits of each set, and what they make.

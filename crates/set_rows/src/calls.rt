@@ -3,19 +3,58 @@
 ghost use Rattle.std.specs.Prelude.{◌*◌, ◌≤◌, length, IsTrue};
 ghost use Rattle.value_set.specs.Form.{members as members_of};
 
+use crate::bits::{add_carries, add_decimal_sums};
 use crate::operations::{CarriedSum, OddBits};
 use crate::sums::Sum;
 use std::alloc::{AllocError, Global};
+use value_bits::w8;
 use value_set::Vs8;
 
+/// A call on two sets.
+#[derive(Clone, Copy)]
+pub enum Call<'a> {
+    Twice,
+    Within,
+    Join,
+    /// Up to the next of these stops.
+    Widen(&'a [u8]),
+    Add,
+    Sub,
+    Cut,
+    /// With each of these carries.
+    Combine(&'a Vs8),
+    And,
+    Or,
+    Xor,
+    DecimalAdd,
+    Agreed,
+}
+
+/// Adds what a call answers of two sets.
+fn add_answer(sum: &mut Sum, call: Call<'_>, one: &Vs8, other: &Vs8) {
+    match call {
+        Call::Twice => sum.add_set(&one.twice()),
+        Call::Within => sum.add(u32::from(one.within(other))),
+        Call::Join => sum.add_set(&one.join(other)),
+        Call::Widen(stops) => sum.add_set(&one.widen(other, stops)),
+        Call::Add => sum.add_set(&one.add(other)),
+        Call::Sub => sum.add_set(&one.sub(other)),
+        Call::Cut => add_cuts(sum, one, other),
+        Call::Combine(carry) => add_combined(sum, one, other, carry),
+        Call::And => sum.add_set(&w8::and(one, other)),
+        Call::Or => sum.add_set(&w8::or(one, other)),
+        Call::Xor => sum.add_set(&w8::xor(one, other)),
+        Call::DecimalAdd => add_decimal_sums(sum, one, other),
+        Call::Agreed => add_carries(sum, one, other),
+    }
+}
+
 /// What a call answers of each pair of sets.
-pub fn over_pairs<F: Fn(&mut Sum, &Vs8, &Vs8)>(all: &[Vs8], call: F) -> Sum
-    requires { F.IsAlwaysCallable call }
-{
+pub fn over_pairs(all: &[Vs8], call: Call<'_>) -> Sum {
     let mut sum = Sum::new();
     for one in all {
         for other in all {
-            call(&mut sum, one, other);
+            add_answer(&mut sum, call, one, other);
         }
     }
     sum
@@ -55,7 +94,7 @@ pub fn runs() -> Sum {
     sum
 }
 
-/// The numbers of a set, by their places.
+/// Adds the numbers of a set, by their places.
 fn add_numbers(numbers: &mut Vec<u8>, set: &Vs8) -> Result<(), AllocError> {
     for place in 0..set.count() {
         numbers.push(set.nth(place))?;
@@ -76,14 +115,12 @@ pub fn gathered(alloc: Global, all: &[Vs8]) -> Result<Sum, AllocError> {
     Ok(sum)
 }
 
-/// What windows leave of each set: none, all of them, more than that, and one from the least member of another as long as it has members.
-pub fn cut(all: &[Vs8]) -> Sum {
-    over_pairs(all, |sum, one, other| {
-        sum.add_found(&one.cut(0x00, 0));
-        sum.add_found(&one.cut(0x9C, 256));
-        sum.add_found(&one.cut(0x10, u32::MAX));
-        sum.add_found(&one.cut(first_of(other), other.count()));
-    })
+/// What windows leave of a set: none, all of them, more than that, and one from the least member of another as long as it has members.
+fn add_cuts(sum: &mut Sum, one: &Vs8, other: &Vs8) {
+    sum.add_found(&one.cut(0x00, 0));
+    sum.add_found(&one.cut(0x9C, 256));
+    sum.add_found(&one.cut(0x10, u32::MAX));
+    sum.add_found(&one.cut(first_of(other), other.count()));
 }
 
 /// The first member of a set.
@@ -108,13 +145,4 @@ fn add_combined(sum: &mut Sum, first: &Vs8, second: &Vs8, carry: &Vs8) {
         sum.add_set(&Vs8::combine(&bits, first, second, carry));
         let (CarriedSum, OddBits) = (sums, bits);
     }
-}
-
-/// What each two sets with some carries give, by an operation.
-pub fn combined(all: &[Vs8], carries: &[u8]) -> Sum {
-    let carry = Vs8::gather(carries).unwrap_or(Vs8::any());
-    over_pairs(
-        all,
-        |sum, first, second| add_combined(sum, first, second, &carry),
-    )
 }

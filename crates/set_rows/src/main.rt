@@ -9,66 +9,74 @@ mod operations;
 mod samples;
 mod sums;
 
-use crate::bits::{adjusted, bits, carries, decimal_sums, moved, word_results};
-use crate::calls::{combined, cut, gathered, members, over_pairs, runs};
+use crate::bits::{adjusted, bits, moved, word_results};
+use crate::calls::{Call, gathered, members, over_pairs, runs};
 use crate::samples::some_samples;
+use crate::sums::Sum;
 use std::io;
-use value_bits::w8;
+use value_set::Vs8;
+
+/// Prints what each call on two sets answers.
+fn print_pairs(rt: &HostRuntime, all: &[Vs8]) -> io::Result<()> {
+    let (zero, one) = (Vs8::one(0), Vs8::one(1));
+    let either = zero.join(&one);
+    for (name, call) in &[
+        ("twice", Call::Twice),
+        ("within", Call::Within),
+        ("join", Call::Join),
+        ("widen", Call::Widen(&[])),
+        ("widen", Call::Widen(&[0x00, 0x40, 0x80])),
+        ("widen", Call::Widen(&[0xF0, 0x20])),
+        ("add", Call::Add),
+        ("sub", Call::Sub),
+        ("cut", Call::Cut),
+        ("combine", Call::Combine(&zero)),
+        ("combine", Call::Combine(&one)),
+        ("combine", Call::Combine(&either)),
+        ("and", Call::And),
+        ("or", Call::Or),
+        ("xor", Call::Xor),
+        ("decimal_add", Call::DecimalAdd),
+        ("agreed", Call::Agreed),
+    ] {
+        println!(rt; "{name} {}", over_pairs(all, *call))?;
+    }
+    Ok(())
+}
+
+/// Prints names of calls, and what these answer.
+fn print_all(rt: &HostRuntime, answers: &[(&str, Sum)]) -> io::Result<()> {
+    for (name, sum) in answers {
+        println!(rt; "{name} {sum}")?;
+    }
+    Ok(())
+}
+
+/// Prints what each call answers: on one set, on two, and on the bits of sets.
+fn print_answers(rt: &HostRuntime, all: &[Vs8]) -> io::Result<()> {
+    let gathered = gathered(rt.alloc(), all)?;
+    println!(rt; "{} sets", all.len())?;
+    print_all(
+        rt,
+        &[
+            ("members", members(all)),
+            ("run", runs()),
+            ("gather", gathered),
+        ],
+    )?;
+    print_pairs(rt, all)?;
+    print_all(
+        rt,
+        &[
+            ("bits", bits(all)),
+            ("shift", moved(all)),
+            ("decimal_adjust", adjusted(all)),
+            ("words", word_results(all)),
+        ],
+    )
+}
 
 fn main(rt: HostRuntime) -> io::Result<()> {
     let all = some_samples(rt.alloc())?;
-    let all = all.as_slice();
-    println!(rt; "{} sets", all.len())?;
-    println!(rt; "members {}", members(all))?;
-    println!(rt; "run {}", runs())?;
-    println!(rt; "gather {}", gathered(rt.alloc(), all)?)?;
-    println!(rt;
-        "twice {}",
-        over_pairs(all, |sum, one, _| sum.add_set(&one.twice()))
-    )?;
-    println!(rt;
-        "within {}",
-        over_pairs(all, |sum, one, other| sum.add(u32::from(one.within(other))))
-    )?;
-    println!(rt;
-        "join {}",
-        over_pairs(all, |sum, one, other| sum.add_set(&one.join(other)))
-    )?;
-    for stops in [[].as_slice(), &[0x00, 0x40, 0x80], &[0xF0, 0x20]] {
-        println!(rt;
-            "widen {}",
-            over_pairs(all, |sum, one, other| sum.add_set(&one.widen(other, stops)))
-        )?;
-    }
-    println!(rt;
-        "add {}",
-        over_pairs(all, |sum, one, other| sum.add_set(&one.add(other)))
-    )?;
-    println!(rt;
-        "sub {}",
-        over_pairs(all, |sum, one, other| sum.add_set(&one.sub(other)))
-    )?;
-    println!(rt; "cut {}", cut(all))?;
-    for carries in [[0].as_slice(), &[1], &[0, 1]] {
-        println!(rt; "combine {}", combined(all, carries))?;
-    }
-    println!(rt;
-        "and {}",
-        over_pairs(all, |sum, one, other| sum.add_set(&w8::and(one, other)))
-    )?;
-    println!(rt;
-        "or {}",
-        over_pairs(all, |sum, one, other| sum.add_set(&w8::or(one, other)))
-    )?;
-    println!(rt;
-        "xor {}",
-        over_pairs(all, |sum, one, other| sum.add_set(&w8::xor(one, other)))
-    )?;
-    println!(rt; "decimal_add {}", decimal_sums(all))?;
-    println!(rt; "agreed {}", carries(all))?;
-    println!(rt; "bits {}", bits(all))?;
-    println!(rt; "shift {}", moved(all))?;
-    println!(rt; "decimal_adjust {}", adjusted(all))?;
-    println!(rt; "words {}", word_results(all))?;
-    Ok(())
+    print_answers(&rt, all.as_slice())
 }
