@@ -1,13 +1,13 @@
 //! Image texts.
 
-ghost use Rattle.std.specs.Prelude.{◌≤◌, length};
+ghost use Rattle.std.specs.Prelude.{◌≡◌, ◌≤◌, length};
 ghost use Rattle.image.specs.Kept.{IsRamRange};
 
 use crate::numbers::halves;
 use ihex_read::{HexError, MOST_BYTES, Reader, Tail};
 use image::{Image, Rules};
 use no_memory::Memory;
-use std::alloc::Global;
+use std::alloc::{AllocError, Global};
 
 /// More bytes than the pieces of a row have.
 const ROOM: usize = 1000;
@@ -31,72 +31,105 @@ fn rules_of(chip: &str) -> Rules
     }
 }
 
-/// What a reader answers of a text in one piece.
-fn in_one(alloc: Global, text: &[u8], rules: Rules) -> Result<Image, HexError>
-    requires range { IsRamRange rules }
-    requires room { length text.now ≤ MOST_BYTES }
-{
-    let mut reader = Reader::new(alloc, rules, Tail::Blank).map_err(|_| HexError::Memory)?;
-    reader.feed(text)?;
-    reader.end()
+/// What a reader says at the end, or the fault of what it was fed.
+fn ended(reader: Reader, fed: Result<(), HexError>) -> Result<Image, HexError> {
+    match fed {
+        Ok(()) => reader.end(),
+        Err(error) => {
+            drop(reader);
+            Err(error)
+        }
+    }
 }
 
-/// What it answers of the text byte by byte.
-fn by_bytes(alloc: Global, text: &[u8], rules: Rules) -> Result<Image, HexError>
-    requires range { IsRamRange rules }
+/// Feeds a reader a text byte by byte.
+fn feed_bytes(reader: &mut Reader, text: &[u8]) -> Result<(), HexError>
+    requires front { length reader.old.text ≡ 0 }
     requires room { length text.now ≤ MOST_BYTES }
 {
-    let mut reader = Reader::new(alloc, rules, Tail::Blank).map_err(|_| HexError::Memory)?;
     for byte in text {
         reader.feed(&[*byte])?;
     }
-    reader.end()
+    Ok(())
 }
 
-/// Adds what both answer, if it is the same, and gives the image.
-pub fn push_image(alloc: Global, out: &mut String, asked: &str) -> Result<Option<Image>, Memory> {
+/// What a reader answers of a text in one piece.
+fn in_one(alloc: Global, text: &[u8], rules: Rules) -> Result<Result<Image, HexError>, Memory>
+    requires range { IsRamRange rules }
+    requires room { length text.now ≤ MOST_BYTES }
+{
+    let mut reader = Reader::new(alloc, rules, Tail::Blank)?;
+    let fed = reader.feed(text).and(Ok(()));
+    Ok(ended(reader, fed))
+}
+
+/// What it answers of the text byte by byte.
+fn by_bytes(alloc: Global, text: &[u8], rules: Rules) -> Result<Result<Image, HexError>, Memory>
+    requires range { IsRamRange rules }
+    requires room { length text.now ≤ MOST_BYTES }
+{
+    let mut reader = Reader::new(alloc, rules, Tail::Blank)?;
+    let fed = feed_bytes(&mut reader, text);
+    Ok(ended(reader, fed))
+}
+
+/// Adds the fault of a text, or that it is an image.
+fn push_fault(out: &mut String, fault: Option<HexError>) -> Result<(), AllocError> {
+    match fault {
+        Some(fault) => write!(out, "{fault}"),
+        None => out.push_str("image"),
+    }
+}
+
+/// The fault that a reader told.
+fn fault_of(answer: &Result<Image, HexError>) -> Option<HexError> {
+    match answer {
+        Ok(_) => None,
+        Err(fault) => Some(*fault),
+    }
+}
+
+/// Adds what a text in one piece is and byte by byte, if it is the same, and keeps the image.
+pub fn push_image(
+    alloc: Global,
+    out: &mut String,
+    image: &mut Option<Image>,
+    asked: &str,
+) -> Result<(), Memory> {
     let (chip, text) = halves(asked);
     let text = text.as_bytes();
     if text.len() > MOST_BYTES {
-        return Ok(None);
+        return Ok(());
     }
-    let rules = rules_of(chip);
-    let other = by_bytes(alloc, text, rules);
-    match in_one(alloc, text, rules) {
-        Ok(image) => {
-            if other.is_ok() {
-                out.push_str("image")?;
-            }
-            Ok(Some(image))
-        }
-        Err(error) => {
-            if other.err() == Some(error) {
-                write!(out, "{error}")?;
-            }
-            Ok(None)
-        }
+    let other = by_bytes(alloc, text, rules_of(chip))?.err();
+    let answer = in_one(alloc, text, rules_of(chip))?;
+    let fault = fault_of(&answer);
+    *image = answer.ok();
+    if fault == other {
+        push_fault(out, fault)?;
     }
+    Ok(())
 }
 
 /// The same of a text in front of the record of the reset vector and the end record.
-pub fn push_front(alloc: Global, out: &mut String, asked: &str) -> Result<Option<Image>, Memory> {
+pub fn push_front(
+    alloc: Global,
+    out: &mut String,
+    image: &mut Option<Image>,
+    asked: &str,
+) -> Result<(), Memory> {
     let text = format!(in alloc; "{asked}\n:02FFFE0000F011\n:00000001FF\n")?;
-    push_image(alloc, out, text.as_str())
+    push_image(alloc, out, image, text.as_str())
 }
 
-/// Adds what a reader says of each piece and whether the image has ended, and then of the end, and gives the image.
-pub fn push_pieces(alloc: Global, out: &mut String, asked: &str) -> Result<Option<Image>, Memory> {
-    let (tail, pieces) = halves(asked);
-    let tail = if tail == "second" {
-        Tail::Second
-    } else {
-        Tail::Blank
-    };
-    let mut reader = Reader::new(alloc, rules_of("msp430"), tail)?;
+/// Adds what a reader says of each piece, up to one that it hasn't room for, and whether the image has ended.
+fn push_fed(out: &mut String, reader: &mut Reader, pieces: &str) -> Result<(), AllocError>
+    requires { length reader.old.text ≡ 0 }
+{
     let mut room = ROOM;
     for piece in pieces.split('|') {
         if room < piece.len() {
-            return Ok(None);
+            break;
         }
         room -= piece.len();
         match reader.feed(piece.as_bytes()) {
@@ -104,14 +137,27 @@ pub fn push_pieces(alloc: Global, out: &mut String, asked: &str) -> Result<Optio
             Err(error) => write!(out, "{error} {}, ", reader.ended())?,
         }
     }
-    match reader.end() {
-        Ok(image) => {
-            out.push_str("image")?;
-            Ok(Some(image))
-        }
-        Err(error) => {
-            write!(out, "{error}")?;
-            Ok(None)
-        }
-    }
+    Ok(())
+}
+
+/// Adds what a reader says of each piece and whether the image has ended, and then of the end, and keeps the image.
+pub fn push_pieces(
+    alloc: Global,
+    out: &mut String,
+    image: &mut Option<Image>,
+    asked: &str,
+) -> Result<(), Memory> {
+    let (tail, pieces) = halves(asked);
+    let tail = if tail == "second" {
+        Tail::Second
+    } else {
+        Tail::Blank
+    };
+    let mut reader = Reader::new(alloc, rules_of("msp430"), tail)?;
+    let pushed = push_fed(out, &mut reader, pieces);
+    let answer = reader.end();
+    let fault = fault_of(&answer);
+    *image = answer.ok();
+    pushed?;
+    Ok(push_fault(out, fault)?)
 }

@@ -5,7 +5,7 @@ ghost use Rattle.std.specs.Prelude.{◌≡◌, ◌≤◌, []};
 use crate::numbers::{halves, push_bytes, push_words, run_of, word_of};
 use arrayvec::ArrayString;
 use call_context::{Calls, Cause, Few, InstrBytes, Item, Sequence, Set, pop_call, push_call};
-use choosing::Choices;
+use choosing::{Choices, Unused};
 use hex_digits::{byte, hex_byte, hex_word, push_byte, push_word, word};
 use item_lines::{InstrText, item_line, put_open};
 use no_memory::Memory;
@@ -70,34 +70,51 @@ fn options_of(digits: &str) -> u32
     digits.parse::<u32>().unwrap_or(1).max(1).min(65536)
 }
 
-/// Adds how many choices there are in front of each turn, which options they choose, and how many the list still has.
-fn push_choices(alloc: Global, out: &mut String, asked: &str) -> Result<(), Memory> {
-    let (numbers, turns) = halves(asked);
+/// The choices of numbers with commas between them.
+fn choices_of(alloc: Global, numbers: &str) -> Result<Choices, AllocError> {
     let mut list = Vec::new(alloc);
     for number in numbers.split(',') {
         list.push(number.parse::<u16>().unwrap_or(0))?;
     }
-    let mut choices = Choices::new(list);
+    Ok(Choices::new(list))
+}
+
+/// Adds which options the questions of a turn choose.
+fn push_options(out: &mut String, unused: &mut Unused<'_>, turn: &str) -> Result<(), AllocError> {
+    for question in turn.split(',') {
+        let is_asked = !question.starts_with('-');
+        let answer = match question.strip_prefix('=') {
+            Some(options) => unused.ask(options_of(options)),
+            None => unused.ask_if(is_asked, options_of(question.trim_start_matches('-'))),
+        };
+        match answer {
+            Some(option) => write!(out, " {option}")?,
+            None => out.push_str(" none")?,
+        }
+    }
+    Ok(())
+}
+
+/// Adds how many choices there are in front of a turn, which options they choose, and how many the list still has.
+fn push_turn(out: &mut String, choices: &mut Choices, turn: &str) -> Result<(), AllocError> {
+    let mut unused = choices.unused();
+    write!(out, "{}:", unused.count())?;
+    push_options(out, &mut unused, turn)?;
+    let left = unused.count();
+    let count = choices.unused().count();
+    write!(out, " of {count}; ")?;
+    if left <= count {
+        choices.leave(left);
+    }
+    Ok(())
+}
+
+/// Adds what each turn chooses.
+fn push_choices(alloc: Global, out: &mut String, asked: &str) -> Result<(), AllocError> {
+    let (numbers, turns) = halves(asked);
+    let mut choices = choices_of(alloc, numbers)?;
     for turn in turns.split('|') {
-        let mut unused = choices.unused();
-        write!(out, "{}:", unused.count())?;
-        for question in turn.split(',') {
-            let is_asked = !question.starts_with('-');
-            let answer = match question.strip_prefix('=') {
-                Some(options) => unused.ask(options_of(options)),
-                None => unused.ask_if(is_asked, options_of(question.trim_start_matches('-'))),
-            };
-            match answer {
-                Some(option) => write!(out, " {option}")?,
-                None => out.push_str(" none")?,
-            }
-        }
-        let left = unused.count();
-        let count = choices.unused().count();
-        write!(out, " of {count}; ")?;
-        if left <= count {
-            choices.leave(left);
-        }
+        push_turn(out, &mut choices, turn)?;
     }
     Ok(())
 }
@@ -167,8 +184,23 @@ fn push_sequence(alloc: Global, out: &mut String, number: &str) -> Result<(), Me
     Ok(write!(out, "{:?}", again.as_slice())?)
 }
 
-/// Adds the answer to what a row asks.
-pub fn push_list(alloc: Global, out: &mut String, kind: &str, asked: &str) -> Result<(), Memory> {
+/// Adds whether two items are the same.
+fn push_sameness(out: &mut String, items: &str) -> Result<(), AllocError> {
+    let (one, other) = items.split_once('|').unwrap_or((items, items));
+    let is_same = item_of(one) == item_of(other);
+    write!(out, "{is_same}")
+}
+
+/// Adds the bytes of an instruction.
+fn push_instr(out: &mut String, item: &Item) -> Result<(), AllocError> {
+    match item {
+        Item::Instr { bytes, .. } => write!(out, "{:?}", bytes.as_slice()),
+        _ => Ok(()),
+    }
+}
+
+/// Adds a line of a report.
+fn push_shown(alloc: Global, out: &mut String, kind: &str, asked: &str) -> Result<(), Memory> {
     let (base, stride, count) = run_of(asked);
     let (front, rest) = halves(asked);
     match kind {
@@ -178,22 +210,30 @@ pub fn push_list(alloc: Global, out: &mut String, kind: &str, asked: &str) -> Re
             push_line(alloc, out, Vs8::run(base, stride, count).map(Set::B))
         }
         "targets" => push_open(alloc, out, front, Cause::Targets(Vs16::one(word_of(rest)))),
-        "store" => push_open(alloc, out, front, Cause::Store(Vs16::any())),
-        "call" | "return" => Ok(push_calls(out, kind, asked)?),
+        _ => push_open(alloc, out, front, Cause::Store(Vs16::any())),
+    }
+}
+
+/// Adds what numbers and lists are.
+fn push_plain(alloc: Global, out: &mut String, kind: &str, asked: &str) -> Result<(), AllocError> {
+    match kind {
+        "call" | "return" => push_calls(out, kind, asked),
         "choices" => push_choices(alloc, out, asked),
-        "word" | "byte-of" => Ok(push_number(out, kind, asked)?),
-        "digits" => Ok(push_digits(out, asked)?),
-        "refusal" => Ok(write!(out, "{:?}", Memory::from(AllocError))?),
-        "few" => Ok(push_few(out, asked)?),
+        "word" | "byte-of" => push_number(out, kind, asked),
+        "digits" => push_digits(out, asked),
+        "refusal" => write!(out, "{:?}", Memory::from(AllocError)),
+        "few" => push_few(out, asked),
+        "same" => push_sameness(out, asked),
+        "instr" => push_instr(out, &item_of(asked)),
+        _ => out.push_str("no such row"),
+    }
+}
+
+/// Adds the answer to what a row asks.
+pub fn push_list(alloc: Global, out: &mut String, kind: &str, asked: &str) -> Result<(), Memory> {
+    match kind {
+        "run" | "octets" | "targets" | "store" => push_shown(alloc, out, kind, asked),
         "sequence" => push_sequence(alloc, out, asked),
-        "same" => {
-            let (one, other) = asked.split_once('|').unwrap_or((asked, asked));
-            Ok(write!(out, "{}", item_of(one) == item_of(other))?)
-        }
-        "instr" => match item_of(asked) {
-            Item::Instr { bytes, .. } => Ok(write!(out, "{:?}", bytes.as_slice())?),
-            _ => Ok(()),
-        },
-        _ => Ok(out.push_str("no such row")?),
+        _ => Ok(push_plain(alloc, out, kind, asked)?),
     }
 }

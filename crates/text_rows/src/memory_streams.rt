@@ -64,6 +64,37 @@ fn push_answers<K: Sink>(out: &mut String, sink: &mut K, texts: &str) -> Result<
     Ok(())
 }
 
+/// Adds what a sink that doesn't fail says of each text, and what it holds.
+fn push_clean(
+    alloc: Global,
+    out: &mut String,
+    piece: usize,
+    room: usize,
+    texts: &str,
+) -> Result<(), Memory>
+    requires { 0 < piece }
+{
+    let mut sink = CleanSink::with_room(alloc, piece, room)?;
+    push_answers(out, &mut sink, texts)?;
+    Ok(push_bytes(out, sink.bytes())?)
+}
+
+/// The same of a sink that fails at some calls.
+fn push_failing(
+    alloc: Global,
+    out: &mut String,
+    piece: usize,
+    room: usize,
+    calls: &str,
+    texts: &str,
+) -> Result<(), Memory>
+    requires { 0 < piece }
+{
+    let mut sink = MemSink::with_room(alloc, piece, room, failing(alloc, calls)?)?;
+    push_answers(out, &mut sink, texts)?;
+    Ok(push_bytes(out, sink.bytes())?)
+}
+
 /// Adds what a sink says of each text, and what it holds.
 pub fn push_writes(alloc: Global, out: &mut String, asked: &str) -> Result<(), Memory> {
     let (piece, rest) = halves(asked);
@@ -71,11 +102,8 @@ pub fn push_writes(alloc: Global, out: &mut String, asked: &str) -> Result<(), M
     let (calls, texts) = halves(rest);
     let (piece, room) = (piece_of(piece), count_of(room));
     if calls == "-" {
-        let mut sink = CleanSink::with_room(alloc, piece, room)?;
-        push_answers(out, &mut sink, texts)?;
-        return Ok(push_bytes(out, sink.bytes())?);
+        push_clean(alloc, out, piece, room, texts)
+    } else {
+        push_failing(alloc, out, piece, room, calls, texts)
     }
-    let mut sink = MemSink::with_room(alloc, piece, room, failing(alloc, calls)?)?;
-    push_answers(out, &mut sink, texts)?;
-    Ok(push_bytes(out, sink.bytes())?)
 }

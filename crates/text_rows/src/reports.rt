@@ -17,7 +17,11 @@ fn push_lines(out: &mut String, report: &Report<'_>) -> Result<(), AllocError> {
 /// Adds what stands in a report, or what is wrong with its first bad line.
 pub fn push_report(alloc: Global, out: &mut String, text: &str) -> Result<(), Memory> {
     match read(alloc, text.as_bytes()) {
-        Ok(report) => Ok(push_lines(out, &report)?),
+        Ok(report) => {
+            let pushed = push_lines(out, &report);
+            drop(report);
+            Ok(pushed?)
+        }
         Err(ReadError::Refused(refusal)) => {
             Ok(write!(out, "line {}: {:?}", refusal.line, refusal.why)?)
         }
@@ -25,15 +29,22 @@ pub fn push_report(alloc: Global, out: &mut String, text: &str) -> Result<(), Me
     }
 }
 
-/// Adds the least and the greatest number of the set in each S line of a report.
-pub fn push_stack(alloc: Global, out: &mut String, text: &str) -> Result<(), Memory> {
-    let Ok(report) = read(alloc, text.as_bytes()) else {
-        return Ok(());
-    };
-    for line in report.lines.iter() {
+/// Adds the least and the greatest number of the set in each S line.
+fn push_sets(out: &mut String, lines: &[Line<'_>]) -> Result<(), AllocError> {
+    for line in lines {
         if let Line::Stack(stack) = line {
             write!(out, "{:04X} {:04X}", stack.at.least, stack.at.greatest)?;
         }
     }
     Ok(())
+}
+
+/// Adds these numbers of a report.
+pub fn push_stack(alloc: Global, out: &mut String, text: &str) -> Result<(), Memory> {
+    let Ok(report) = read(alloc, text.as_bytes()) else {
+        return Ok(());
+    };
+    let pushed = push_sets(out, report.lines.as_slice());
+    drop(report);
+    Ok(pushed?)
 }

@@ -48,44 +48,57 @@ impl Rows {
         asked: &str,
     ) -> Result<(), Memory> {
         match kind {
-            "image" => self.image = push_image(alloc, out, asked)?,
-            "front" => self.image = push_front(alloc, out, asked)?,
-            "pieces" => self.image = push_pieces(alloc, out, asked)?,
-            "byte" => self.push_byte(out, asked)?,
-            "meets" => self.push_meeting(out, asked)?,
-            "script" => push_script(alloc, out, asked)?,
-            "feeds" => push_feeds(alloc, out, asked)?,
-            "report" => push_report(alloc, out, asked)?,
-            "stack" => push_stack(alloc, out, asked)?,
-            "reads" => push_reads(alloc, out, asked)?,
-            "writes" => push_writes(alloc, out, asked)?,
-            "made" | "size" | "parts" | "fault" | "counted" | "whole" => {
-                push_text(alloc, out, kind, asked)?
-            }
-            "each" | "ways" | "either" => push_ways(alloc, out, kind, asked)?,
-            _ => push_list(alloc, out, kind, asked)?,
-        }
-        Ok(())
-    }
-
-    /// Adds the byte at an address of the last image.
-    fn push_byte(&self, out: &mut String, at: &str) -> Result<(), AllocError> {
-        let Some(image) = &self.image else {
-            return out.push_str("no image");
-        };
-        match image.byte(word_of(at)) {
-            Some(byte) => write!(out, "{byte:02X}"),
-            None => out.push_str("none"),
+            "image" => push_image(alloc, out, &mut self.image, asked),
+            "front" => push_front(alloc, out, &mut self.image, asked),
+            "pieces" => push_pieces(alloc, out, &mut self.image, asked),
+            "byte" | "meets" => Ok(push_of_image(out, self.image.as_ref(), kind, asked)?),
+            _ => push_answer(alloc, out, kind, asked),
         }
     }
+}
 
-    /// Adds whether the last image has a byte in a range.
-    fn push_meeting(&self, out: &mut String, range: &str) -> Result<(), AllocError> {
-        let Some(image) = &self.image else {
-            return out.push_str("no image");
-        };
-        let (lo, count) = halves(range);
-        let count = u32::from_str_radix(count, 16).unwrap_or(0);
-        write!(out, "{}", image.meets(word_of(lo), count))
+/// Adds the answer to what a row asks that isn't of an image.
+fn push_answer(alloc: Global, out: &mut String, kind: &str, asked: &str) -> Result<(), Memory> {
+    match kind {
+        "script" => Ok(push_script(alloc, out, asked)?),
+        "feeds" => Ok(push_feeds(alloc, out, asked)?),
+        "report" => push_report(alloc, out, asked),
+        "stack" => push_stack(alloc, out, asked),
+        "reads" => push_reads(alloc, out, asked),
+        "writes" => push_writes(alloc, out, asked),
+        "made" | "size" | "parts" | "fault" | "counted" | "whole" => {
+            push_text(alloc, out, kind, asked)
+        }
+        "each" | "ways" | "either" => push_ways(alloc, out, kind, asked),
+        _ => push_list(alloc, out, kind, asked),
     }
+}
+
+/// Adds the byte at an address of an image, or whether it has a byte in a range.
+fn push_of_image(
+    out: &mut String,
+    image: Option<&Image>,
+    kind: &str,
+    asked: &str,
+) -> Result<(), AllocError> {
+    match image {
+        Some(image) if kind == "byte" => push_byte(out, image, asked),
+        Some(image) => push_meeting(out, image, asked),
+        None => out.push_str("no image"),
+    }
+}
+
+/// Adds the byte at an address of an image.
+fn push_byte(out: &mut String, image: &Image, at: &str) -> Result<(), AllocError> {
+    match image.byte(word_of(at)) {
+        Some(byte) => write!(out, "{byte:02X}"),
+        None => out.push_str("none"),
+    }
+}
+
+/// Adds whether an image has a byte in a range.
+fn push_meeting(out: &mut String, image: &Image, range: &str) -> Result<(), AllocError> {
+    let (lo, count) = halves(range);
+    let count = u32::from_str_radix(count, 16).unwrap_or(0);
+    write!(out, "{}", image.meets(word_of(lo), count))
 }

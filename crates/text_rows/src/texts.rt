@@ -22,31 +22,48 @@ fn made(alloc: Global, asked: &str) -> Result<Vec<u8>, Memory> {
     }
 }
 
-/// A text of parts so many times, and the bytes of all of them.
-fn built(alloc: Global, asked: &str) -> Result<(Text, Vec<u8>), Memory> {
-    let (times, parts) = halves(asked);
-    let mut builder = TextBuilder::new(alloc)?;
-    let mut bytes = Vec::new(alloc);
-    for _ in 0..count_of(times) {
-        for part in parts.split('|') {
-            builder.push_part(part.as_bytes())?;
-            bytes.extend_from_slice(part.as_bytes())?;
-        }
-    }
-    Ok((builder.into_text(), bytes))
+/// A text that is built part by part, and the bytes of all parts.
+#[derive(Drop)]
+struct Built {
+    builder: TextBuilder,
+    bytes: Vec<u8>,
 }
 
-/// Numbers as parts, some of which come again, and the bytes of all of them.
-fn counted(alloc: Global, count: &str) -> Result<(Text, Vec<u8>), Memory> {
-    let mut builder = TextBuilder::new(alloc)?;
-    let mut bytes = Vec::new(alloc);
-    for number in 0..count_of(count) {
-        let part = (number % 7).wrapping_mul(number) % 400;
-        let part = part.to_string(alloc)?;
-        builder.push_part(part.as_str().as_bytes())?;
-        bytes.extend_from_slice(part.as_str().as_bytes())?;
+impl Built {
+    /// No part yet.
+    fn new(alloc: Global) -> Result<Built, Memory> {
+        Ok(Built {
+            builder: TextBuilder::new(alloc)?,
+            bytes: Vec::new(alloc),
+        })
     }
-    Ok((builder.into_text(), bytes))
+
+    /// Adds a part.
+    fn push(&mut self, part: &str) -> Result<(), Memory> {
+        self.builder.push_part(part.as_bytes())?;
+        Ok(self.bytes.extend_from_slice(part.as_bytes())?)
+    }
+
+    /// Adds parts so many times.
+    fn push_parts(&mut self, asked: &str) -> Result<(), Memory> {
+        let (times, parts) = halves(asked);
+        for _ in 0..count_of(times) {
+            for part in parts.split('|') {
+                self.push(part)?;
+            }
+        }
+        Ok(())
+    }
+
+    /// Adds numbers as parts, some of which come again.
+    fn push_numbers(&mut self, alloc: Global, count: &str) -> Result<(), Memory> {
+        for number in 0..count_of(count) {
+            let part = (number % 7).wrapping_mul(number) % 400;
+            let part = part.to_string(alloc)?;
+            self.push(part.as_str())?;
+        }
+        Ok(())
+    }
 }
 
 /// Whether a text is written in pieces of this length as these bytes.
@@ -55,26 +72,68 @@ fn is_written(alloc: Global, text: &Text, bytes: &[u8], piece: usize) -> Result<
     Ok(text.write_to(&mut sink).is_ok() && sink.bytes() == bytes)
 }
 
-/// Adds whether a text is written as these bytes, in pieces of any length, and given as them.
-fn push_sameness(alloc: Global, out: &mut String, built: (Text, Vec<u8>)) -> Result<(), Memory> {
-    let (text, bytes) = built;
-    let mut is_same = true;
+/// Whether a text is written as these bytes, in pieces of any length.
+fn is_always_written(alloc: Global, text: &Text, bytes: &[u8]) -> Result<bool, Memory> {
     for piece in [1, 4, 7, 100_000] {
-        is_same = is_same && is_written(alloc, &text, bytes.as_slice(), piece)?;
+        if !is_written(alloc, text, bytes, piece)? {
+            return Ok(false);
+        }
     }
-    let is_same = is_same && text.into_bytes()?.as_slice() == bytes.as_slice();
-    Ok(write!(out, "{is_same}")?)
+    Ok(true)
+}
+
+/// Adds whether a text is written as these bytes, and given as them.
+fn push_sameness(alloc: Global, out: &mut String, text: Text, bytes: &[u8]) -> Result<(), Memory> {
+    let is_written = is_always_written(alloc, &text, bytes);
+    let is_given = text.into_bytes()?.as_slice() == bytes;
+    Ok(write!(out, "{}", is_written? && is_given)?)
+}
+
+/// Adds this of a text of parts, or of numbers as parts.
+fn push_built(alloc: Global, out: &mut String, kind: &str, asked: &str) -> Result<(), Memory> {
+    let mut built = Built::new(alloc)?;
+    let pushed = match kind {
+        "parts" => built.push_parts(asked),
+        _ => built.push_numbers(alloc, asked),
+    };
+    let Built { builder, bytes } = built;
+    let text = builder.into_text();
+    match pushed {
+        Ok(()) => push_sameness(alloc, out, text, &bytes),
+        Err(Memory) => {
+            drop(text);
+            Err(Memory)
+        }
+    }
+}
+
+/// Adds this of a text of bytes.
+fn push_whole(alloc: Global, out: &mut String, asked: &str) -> Result<(), Memory> {
+    let bytes = Vec::from_slice(alloc, asked.as_bytes())?;
+    push_sameness(alloc, out, Text::from_bytes(bytes), asked.as_bytes())
+}
+
+/// Whether less than all of a text is written where a write fails, and a front of it.
+fn is_front(alloc: Global, text: &Text, bytes: &[u8], call: &str) -> Result<bool, Memory> {
+    let mut sink = MemSink::with_room(alloc, 10_000, bytes.len(), failing(alloc, call)?)?;
+    Ok(
+        text.write_to(&mut sink).is_err()
+            && bytes.starts_with(sink.bytes())
+            && sink.bytes().len() < bytes.len(),
+    )
 }
 
 /// Adds how a text of parts is written where a write fails.
 fn push_fault(alloc: Global, out: &mut String, asked: &str) -> Result<(), Memory> {
     let (call, asked) = halves(asked);
-    let (text, bytes) = built(alloc, asked)?;
-    let mut sink = MemSink::with_room(alloc, 10_000, bytes.len(), failing(alloc, call)?)?;
-    let is_front = text.write_to(&mut sink).is_err()
-        && bytes.as_slice().starts_with(sink.bytes())
-        && sink.bytes().len() < bytes.len();
-    Ok(out.push_str(if is_front { "a front" } else { "no front" })?)
+    let mut built = Built::new(alloc)?;
+    let pushed = built.push_parts(asked);
+    let Built { builder, bytes } = built;
+    let text = builder.into_text();
+    let is_front = is_front(alloc, &text, &bytes, call);
+    drop((text, bytes));
+    pushed?;
+    Ok(out.push_str(if is_front? { "a front" } else { "no front" })?)
 }
 
 /// Adds the answer to what a row asks of a text.
@@ -82,12 +141,8 @@ pub fn push_text(alloc: Global, out: &mut String, kind: &str, asked: &str) -> Re
     match kind {
         "made" => Ok(push_bytes(out, made(alloc, asked)?.as_slice())?),
         "size" => Ok(write!(out, "{}", made(alloc, asked)?.len())?),
-        "parts" => push_sameness(alloc, out, built(alloc, asked)?),
-        "counted" => push_sameness(alloc, out, counted(alloc, asked)?),
+        "parts" | "counted" => push_built(alloc, out, kind, asked),
         "fault" => push_fault(alloc, out, asked),
-        _ => {
-            let bytes = Vec::from_slice(alloc, asked.as_bytes())?;
-            push_sameness(alloc, out, (Text::from_bytes(bytes.clone()?), bytes))
-        }
+        _ => push_whole(alloc, out, asked),
     }
 }

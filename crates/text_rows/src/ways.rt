@@ -85,27 +85,40 @@ fn list_of(text: &str) -> Vs16 {
     Vs16::gather(numbers.as_slice()).unwrap_or(Vs16::any())
 }
 
+/// Adds the two ways of a jump.
+fn push_either(alloc: Global, ways: &mut Ways<Number>, asked: &str) -> Result<(), Memory> {
+    let (behind, target) = halves(asked);
+    let (behind, target) = (word_of(behind), word_of(target));
+    let on = Some(Number { number: 1 });
+    let jumped = Some(Number { number: 2 });
+    let site = Place { pc: 0xF000 };
+    add_either(alloc, ways, &site, behind, target, on, jumped)
+}
+
+/// Adds the ways to a set of addresses.
+fn push_set(alloc: Global, ways: &mut Ways<Number>, kind: &str, asked: &str) -> Result<(), Memory> {
+    let (base, stride, count) = run_of(asked);
+    let set = match kind {
+        "each" => list_of(asked),
+        _ => Vs16::run(base, stride, count).unwrap_or(Vs16::any()),
+    };
+    let site = Place { pc: 0xF000 };
+    add_each(alloc, ways, &site, &set, Number { number: 5 })
+}
+
 /// Adds the ways to a set of addresses, or of a jump.
 pub fn push_ways(alloc: Global, out: &mut String, kind: &str, asked: &str) -> Result<(), Memory> {
-    let site = Place { pc: 0xF000 };
     let mut ways = Ways {
         items: Sequence::new(alloc),
         posts: Sequence::new(alloc),
         opens: Sequence::new(alloc),
     };
-    if kind == "either" {
-        let (behind, target) = halves(asked);
-        let on = Some(Number { number: 1 });
-        let jumped = Some(Number { number: 2 });
-        let (behind, target) = (word_of(behind), word_of(target));
-        add_either(alloc, &mut ways, &site, behind, target, on, jumped)?;
-    } else {
-        let (base, stride, count) = run_of(asked);
-        let set = match kind {
-            "each" => list_of(asked),
-            _ => Vs16::run(base, stride, count).unwrap_or(Vs16::any()),
-        };
-        add_each(alloc, &mut ways, &site, &set, Number { number: 5 })?;
-    }
-    Ok(push_each(out, &ways)?)
+    let found = match kind {
+        "either" => push_either(alloc, &mut ways, asked),
+        _ => push_set(alloc, &mut ways, kind, asked),
+    };
+    let pushed = push_each(out, &ways);
+    drop(ways);
+    found?;
+    Ok(pushed?)
 }

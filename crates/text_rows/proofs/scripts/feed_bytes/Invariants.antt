@@ -1,5 +1,5 @@
 use Rattle.std.proofs.Common.{◌≤◌, length}
-use Rattle.text_rows.proofs.scripts.by_bytes.Given as goal
+use Rattle.text_rows.proofs.scripts.feed_bytes.Given as goal
 
 abbrev pub invariant-loop-byte : goal.invariant-loop-byte
 invariant-loop-byte l = length l.reader.text ≤ l.byte-index

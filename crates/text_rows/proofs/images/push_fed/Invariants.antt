@@ -1,5 +1,5 @@
 use Rattle.std.proofs.Common.{◌+◌, ◌≤◌, length}
-use Rattle.text_rows.proofs.images.push_pieces.Given as goal
+use Rattle.text_rows.proofs.images.push_fed.Given as goal
 
 abbrev pub invariant-loop-piece : goal.invariant-loop-piece
 invariant-loop-piece l = length l.reader.text + l.room ≤ 1000
