@@ -1,7 +1,6 @@
 //! Rows of known bits: of the manuals, and worked by hand from their rules.
 
 use crate::given::{are_equal, list8, list16, run8, run16};
-use std::test::Fail;
 use value_bits::{AllFlags, FourFlags, FourKnown, Lowest, Top, Tri, w8, w16};
 use value_set::{Vs8, Vs16};
 
@@ -30,7 +29,7 @@ fn shifted(x: u16, top: Top) -> Vs16 {
 
 /// The examples of SWPB and SXT in SLAU049, and shifts of words.
 #[test]
-fn rows_of_words(rt: HostRuntime) -> Result<(), Fail> {
+fn rows_of_words(rt: HostRuntime) {
     are_equal(
         &rt,
         &[
@@ -50,11 +49,10 @@ fn rows_of_words(rt: HostRuntime) -> Result<(), Fail> {
             (shifted(0x8000, Top::Put(Tri::Zero)), Vs16::one(0x4000)),
             (
                 shifted(0x0003, Top::Put(Tri::Either)),
-                list16(&[0x0001, 0x8001])?,
+                list16(&rt, &[0x0001, 0x8001]),
             ),
         ],
     );
-    Ok(())
 }
 
 fn decimal_words(x: u16, y: u16, carry: Tri) -> Vs16 {
@@ -63,8 +61,8 @@ fn decimal_words(x: u16, y: u16, carry: Tri) -> Vs16 {
 
 /// Four digits: 1234 + 5678 = 6912 and the like.
 #[test]
-fn decimal_sums_of_words(rt: HostRuntime) -> Result<(), Fail> {
-    let run = run16(0x0000, 0x0010, 17)?;
+fn decimal_sums_of_words(rt: HostRuntime) {
+    let run = run16(&rt, 0x0000, 0x0010, 17);
     are_equal(
         &rt,
         &[
@@ -76,7 +74,7 @@ fn decimal_sums_of_words(rt: HostRuntime) -> Result<(), Fail> {
             (decimal_words(0x0000, 0x0000, Tri::One), Vs16::one(0x0001)),
             (
                 decimal_words(0x0999, 0x0000, Tri::Either),
-                list16(&[0x0999, 0x1000])?,
+                list16(&rt, &[0x0999, 0x1000]),
             ),
             (decimal_words(0x000A, 0x0001, Tri::Zero), Vs16::any()),
             (decimal_words(0x0001, 0xB000, Tri::Zero), Vs16::any()),
@@ -86,7 +84,6 @@ fn decimal_sums_of_words(rt: HostRuntime) -> Result<(), Fail> {
             ),
         ],
     );
-    Ok(())
 }
 
 fn decimal_bytes(x: u8, y: u8, carry: Tri) -> Vs8 {
@@ -113,7 +110,7 @@ fn adjusted(a: u8, carry: Tri, half: Tri) -> Vs8 {
 
 /// The two examples of DA in the MCS-51 instruction set, 56 + 67 + 1 and 30 + 99, and sums of two digits each.
 #[test]
-fn decimal_adjustments(rt: HostRuntime) -> Result<(), Fail> {
+fn decimal_adjustments(rt: HostRuntime) {
     are_equal(
         &rt,
         &[
@@ -127,7 +124,7 @@ fn decimal_adjustments(rt: HostRuntime) -> Result<(), Fail> {
             (adjusted(0x45, Tri::Zero, Tri::Zero), Vs8::one(0x45)),
             (
                 adjusted(0x11, Tri::Zero, Tri::Either),
-                list8(&[0x11, 0x17])?,
+                list8(&rt, &[0x11, 0x17]),
             ),
             (
                 w8::decimal_adjust(&Vs8::any(), Tri::Either, Tri::Zero),
@@ -135,7 +132,6 @@ fn decimal_adjustments(rt: HostRuntime) -> Result<(), Fail> {
             ),
         ],
     );
-    Ok(())
 }
 
 /// A bit as `0`, `1` or `x`.
@@ -147,56 +143,58 @@ fn bit_of(digit: char) -> Tri {
     }
 }
 
-/// Bits, the highest one first.
-fn bits8(row: &str) -> [Tri; 8] {
-    let mut bits = [Tri::Either; 8];
+/// Puts the bits of a row, the last one first.
+fn put_bits(bits: &mut [Tri], row: &str) {
     for (bit, digit) in bits.iter_mut().zip(row.chars().rev()) {
         *bit = bit_of(digit);
     }
+}
+
+/// Bits, the highest one first.
+fn bits8(row: &str) -> [Tri; 8] {
+    let mut bits = [Tri::Either; 8];
+    put_bits(&mut bits, row);
     bits
 }
 
 fn bits16(row: &str) -> [Tri; 16] {
     let mut bits = [Tri::Either; 16];
-    for (bit, digit) in bits.iter_mut().zip(row.chars().rev()) {
-        *bit = bit_of(digit);
-    }
+    put_bits(&mut bits, row);
     bits
 }
 
 #[test]
-fn known_bits(rt: HostRuntime) -> Result<(), Fail> {
-    let list = list8(&[0x05, 0x07])?;
+fn known_bits(rt: HostRuntime) {
+    let list = list8(&rt, &[0x05, 0x07]);
     are_equal(
         &rt,
         &[
             (w8::bits(&list), bits8("000001x1")),
-            (w8::bits(&run8(0x40, 4, 17)?), bits8("xxxxxx00")),
-            (w8::bits(&run8(0x40, 2, 17)?), bits8("01xxxxx0")),
-            (w8::bits(&run8(0xF0, 1, 0x20)?), bits8("xxxxxxxx")),
-            (w8::bits(&run8(0xF1, 4, 17)?), bits8("xxxxxx01")),
-            (w8::bits(&run8(0x03, 8, 0x20)?), bits8("xxxxx011")),
+            (w8::bits(&run8(&rt, 0x40, 4, 17)), bits8("xxxxxx00")),
+            (w8::bits(&run8(&rt, 0x40, 2, 17)), bits8("01xxxxx0")),
+            (w8::bits(&run8(&rt, 0xF0, 1, 0x20)), bits8("xxxxxxxx")),
+            (w8::bits(&run8(&rt, 0xF1, 4, 17)), bits8("xxxxxx01")),
+            (w8::bits(&run8(&rt, 0x03, 8, 0x20)), bits8("xxxxx011")),
         ],
     );
-    let words = run16(0x0200, 4, 0x20)?;
+    let words = run16(&rt, 0x0200, 4, 0x20);
     are_equal(&rt, &[(w16::bits(&words), bits16("000000100xxxxx00"))]);
     are_equal(&rt, &[(w16::from_bits(&w16::bits(&words)), words)]);
     are_equal(&rt, &[(w8::from_bits(&w8::bits(&list)), list)]);
-    Ok(())
 }
 
 /// Bytes below 100h are their own low bytes, and their own words with the high byte 0.
 #[test]
-fn bytes_as_words(rt: HostRuntime) -> Result<(), Fail> {
-    let bytes = list8(&[0x02, 0x80, 0xFF])?;
-    let words = list16(&[0x02, 0x80, 0xFF])?;
-    let others = list16(&[0x02, 0x0102, 0x0280])?;
-    let run = run8(0x10, 2, 0x20)?;
+fn bytes_as_words(rt: HostRuntime) {
+    let bytes = list8(&rt, &[0x02, 0x80, 0xFF]);
+    let words = list16(&rt, &[0x02, 0x80, 0xFF]);
+    let others = list16(&rt, &[0x02, 0x0102, 0x0280]);
+    let run = run8(&rt, 0x10, 2, 0x20);
     are_equal(
         &rt,
         &[
             (w16::low(&words), bytes),
-            (w16::low(&others), list8(&[0x02, 0x80])?),
+            (w16::low(&others), list8(&rt, &[0x02, 0x80])),
         ],
     );
     are_equal(
@@ -205,12 +203,11 @@ fn bytes_as_words(rt: HostRuntime) -> Result<(), Fail> {
             (w16::pair(&bytes, &Vs8::one(0)), words),
             (
                 w16::pair(&bytes, &Vs8::one(1)),
-                list16(&[0x0102, 0x0180, 0x01FF])?,
+                list16(&rt, &[0x0102, 0x0180, 0x01FF]),
             ),
-            (w16::pair(&run, &Vs8::one(0)), run16(0x0010, 2, 0x20)?),
+            (w16::pair(&run, &Vs8::one(0)), run16(&rt, 0x0010, 2, 0x20)),
         ],
     );
-    Ok(())
 }
 
 /// Carry, zero, sign and the lowest bit of the sum of two bytes and a carry.
@@ -246,20 +243,22 @@ fn sum_flags(a: &Vs8, b: &Vs8, carry: Tri) -> FourKnown {
 
 /// Four flags as `0`, `1` and `x`.
 fn known(row: &str) -> FourKnown {
-    let mut flags = row.chars().map(bit_of);
+    let mut bits = [Tri::Either; 4];
+    put_bits(&mut bits, row);
+    let [fourth, third, second, first] = bits;
     FourKnown {
-        first: flags.next().unwrap_or(Tri::Either),
-        second: flags.next().unwrap_or(Tri::Either),
-        third: flags.next().unwrap_or(Tri::Either),
-        fourth: flags.next().unwrap_or(Tri::Either),
+        first,
+        second,
+        third,
+        fourth,
     }
 }
 
 #[test]
-fn all_flags_at_once(rt: HostRuntime) -> Result<(), Fail> {
+fn all_flags_at_once(rt: HostRuntime) {
     let (one, any) = (Vs8::one(0x01), Vs8::any());
-    let low = list8(&[0x01, 0x03])?;
-    let high = list8(&[0x7D, 0xFD])?;
+    let low = list8(&rt, &[0x01, 0x03]);
+    let high = list8(&rt, &[0x7D, 0xFD]);
     are_equal(
         &rt,
         &[
@@ -269,62 +268,68 @@ fn all_flags_at_once(rt: HostRuntime) -> Result<(), Fail> {
             (sum_flags(&any, &low, Tri::Zero), known("xxxx")),
         ],
     );
-    Ok(())
 }
 
 /// More than 256 combinations.
 #[test]
-fn large_sets(rt: HostRuntime) -> Result<(), Fail> {
+fn large_sets(rt: HostRuntime) {
     let any = Vs16::any();
-    let even = run16(0x0000, 2, 0x8000)?;
+    let even = run16(&rt, 0x0000, 2, 0x8000);
     are_equal(
         &rt,
         &[
             (w16::and(&any, &Vs16::one(0xFFFE)), even),
-            (w16::and(&any, &Vs16::one(0x0003)), list16(&[0, 1, 2, 3])?),
-            (w16::or(&any, &Vs16::one(0x0001)), run16(0x0001, 2, 0x8000)?),
+            (
+                w16::and(&any, &Vs16::one(0x0003)),
+                list16(&rt, &[0, 1, 2, 3]),
+            ),
+            (
+                w16::or(&any, &Vs16::one(0x0001)),
+                run16(&rt, 0x0001, 2, 0x8000),
+            ),
             (w16::xor(&any, &Vs16::one(0x1234)), any),
             (
                 w16::shift_right(&even, Top::Put(Tri::Zero)),
-                run16(0, 1, 0x8000)?,
+                run16(&rt, 0, 1, 0x8000),
             ),
-            (w16::shift_right(&even, Top::Low), run16(0, 1, 0x8000)?),
+            (w16::shift_right(&even, Top::Low), run16(&rt, 0, 1, 0x8000)),
             (w16::shift_right(&even, Top::Sign), any),
         ],
     );
-    Ok(())
 }
 
 /// Bytes of words, and words of bytes, of large sets.
 #[test]
-fn halves_of_large_sets(rt: HostRuntime) -> Result<(), Fail> {
-    let even = run16(0x0000, 2, 0x8000)?;
-    let (long, longer) = (run16(0, 1, 0x200)?, run16(0, 8, 0x400)?);
+fn halves_of_large_sets(rt: HostRuntime) {
+    let even = run16(&rt, 0x0000, 2, 0x8000);
+    let (long, longer) = (run16(&rt, 0, 1, 0x200), run16(&rt, 0, 8, 0x400));
     are_equal(
         &rt,
         &[
-            (w16::swap_bytes(&even), run16(0, 1, 0xFF00)?),
-            (w16::swap_bytes(&long), run16(0, 1, 0xFF02)?),
-            (w16::sign_extend(&longer), run16(0, 8, 0x2000)?),
+            (w16::swap_bytes(&even), run16(&rt, 0, 1, 0xFF00)),
+            (w16::swap_bytes(&long), run16(&rt, 0, 1, 0xFF02)),
+            (w16::sign_extend(&longer), run16(&rt, 0, 8, 0x2000)),
             (
                 w16::pair(&Vs8::any(), &Vs8::one(0x02)),
-                run16(0x0200, 1, 0x100)?,
+                run16(&rt, 0x0200, 1, 0x100),
             ),
             (
-                w16::pair(&Vs8::any(), &list8(&[2, 3])?),
-                run16(0x0200, 1, 0x200)?,
+                w16::pair(&Vs8::any(), &list8(&rt, &[2, 3])),
+                run16(&rt, 0x0200, 1, 0x200),
             ),
         ],
     );
-    let list = list16(&[0x1234, 0x5634])?;
+    let list = list16(&rt, &[0x1234, 0x5634]);
     are_equal(
         &rt,
         &[
-            (w16::low(&even), run8(0x00, 2, 0x80)?),
+            (w16::low(&even), run8(&rt, 0x00, 2, 0x80)),
             (w16::low(&list), Vs8::one(0x34)),
-            (w16::high(&run16(0x0200, 1, 0x200)?), list8(&[2, 3])?),
+            (
+                w16::high(&run16(&rt, 0x0200, 1, 0x200)),
+                list8(&rt, &[2, 3]),
+            ),
             (w16::high(&Vs16::one(0x1234)), Vs8::one(0x12)),
         ],
     );
-    Ok(())
 }

@@ -2,23 +2,22 @@
 
 use std::fmt::Debug;
 use std::process::Abort;
-use std::test::Fail;
 use value_set::{Vs8, Vs16};
 
-pub(crate) fn run8(base: u8, stride: u8, count: u32) -> Result<Vs8, Fail> {
-    Ok(Vs8::run(base, stride, count).ok_or("a run of bytes")?)
+pub(crate) fn run8(rt: &impl Abort, base: u8, stride: u8, count: u32) -> Vs8 {
+    Vs8::run(base, stride, count).expect(rt, "a run of bytes")
 }
 
-pub(crate) fn run16(base: u16, stride: u16, count: u32) -> Result<Vs16, Fail> {
-    Ok(Vs16::run(base, stride, count).ok_or("a run of words")?)
+pub(crate) fn run16(rt: &impl Abort, base: u16, stride: u16, count: u32) -> Vs16 {
+    Vs16::run(base, stride, count).expect(rt, "a run of words")
 }
 
-pub(crate) fn list8(values: &[u8]) -> Result<Vs8, Fail> {
-    Ok(Vs8::gather(values).ok_or("a list of bytes")?)
+pub(crate) fn list8(rt: &impl Abort, values: &[u8]) -> Vs8 {
+    Vs8::gather(values).expect(rt, "a list of bytes")
 }
 
-pub(crate) fn list16(values: &[u16]) -> Result<Vs16, Fail> {
-    Ok(Vs16::gather(values).ok_or("a list of words")?)
+pub(crate) fn list16(rt: &impl Abort, values: &[u16]) -> Vs16 {
+    Vs16::gather(values).expect(rt, "a list of words")
 }
 
 /// Each answer is the one beside it.

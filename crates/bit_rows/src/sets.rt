@@ -1,60 +1,59 @@
 //! Rows of sets that reports print, and the calls of sets of words.
 
 use crate::given::{are_equal, list8, list16, run8, run16};
-use std::test::Fail;
 use value_set::{Form, Operation, Vs8, Vs16};
 
 #[test]
-fn joins_and_sums(rt: HostRuntime) -> Result<(), Fail> {
-    let (low, round) = (run8(0x00, 1, 0x20)?, run8(0xF0, 1, 0x20)?);
+fn joins_and_sums(rt: HostRuntime) {
+    let (low, round) = (run8(&rt, 0x00, 1, 0x20), run8(&rt, 0xF0, 1, 0x20));
     let sixteen = Vs8::one(0x10);
     are_equal(
         &rt,
         &[
             (
-                run8(0x00, 4, 0x20)?.join(&Vs8::one(0x02)),
-                run8(0x00, 2, 0x3F)?,
+                run8(&rt, 0x00, 4, 0x20).join(&Vs8::one(0x02)),
+                run8(&rt, 0x00, 2, 0x3F),
             ),
             (round.add(&sixteen), low),
             (low.sub(&sixteen), round),
-            (low.twice(), run8(0x00, 2, 0x20)?),
-            (run8(0x00, 4, 0x40)?.twice(), run8(0x00, 8, 0x20)?),
+            (low.twice(), run8(&rt, 0x00, 2, 0x20)),
+            (run8(&rt, 0x00, 4, 0x40).twice(), run8(&rt, 0x00, 8, 0x20)),
         ],
     );
-    Ok(())
 }
 
 #[test]
-fn widens_to_marks(rt: HostRuntime) -> Result<(), Fail> {
-    let held = run8(0x00, 1, 0x20)?;
+fn widens_to_marks(rt: HostRuntime) {
+    let held = run8(&rt, 0x00, 1, 0x20);
     let new = Vs8::one(0x20);
     are_equal(
         &rt,
         &[
-            (held.widen(&new, &[0x00, 0x01, 0x40]), run8(0x00, 1, 0x40)?),
+            (
+                held.widen(&new, &[0x00, 0x01, 0x40]),
+                run8(&rt, 0x00, 1, 0x40),
+            ),
             (held.widen(&new, &[]), Vs8::any()),
             (held.widen(&Vs8::one(0x1F), &[]), held),
         ],
     );
-    Ok(())
 }
 
 #[test]
-fn a_run_past_the_turn(rt: HostRuntime) -> Result<(), Fail> {
-    let run = run8(0xF0, 1, 0x20)?;
-    let even = run8(0x00, 2, 0x3F)?;
+fn a_run_past_the_turn(rt: HostRuntime) {
+    let run = run8(&rt, 0xF0, 1, 0x20);
+    let even = run8(&rt, 0x00, 2, 0x3F);
     are_equal(
         &rt,
         &[
             (run.has(0x05), true),
             (run.has(0x10), false),
-            (run.within(&run8(0xE0, 1, 0x40)?), true),
-            (even.within(&run8(0x00, 4, 0x20)?), false),
+            (run.within(&run8(&rt, 0xE0, 1, 0x40)), true),
+            (even.within(&run8(&rt, 0x00, 4, 0x20)), false),
         ],
     );
     let low = Vs8::gather(&[0, 1, 2, 3, 4, 5, 6, 7]);
     are_equal(&rt, &[(run.cut(0, 8), low), (run.cut(0x10, 0xE0), None)]);
-    Ok(())
 }
 
 #[test]
@@ -83,7 +82,7 @@ fn no_such_sets(rt: HostRuntime) {
 }
 
 #[test]
-fn long_lists(rt: HostRuntime) -> Result<(), Fail> {
+fn long_lists(rt: HostRuntime) {
     let mut list = [0x1000; 300];
     let same = Vs16::gather(list.as_slice());
     for i in 0..300u16 {
@@ -93,28 +92,30 @@ fn long_lists(rt: HostRuntime) -> Result<(), Fail> {
         &rt,
         &[
             (same, Some(Vs16::one(0x1000))),
-            (Vs16::gather(list.as_slice()), Some(run16(0x16A8, 8, 300)?)),
+            (
+                Vs16::gather(list.as_slice()),
+                Some(run16(&rt, 0x16A8, 8, 300)),
+            ),
         ],
     );
-    Ok(())
 }
 
 /// Lists below 100h are the same as bytes and as words. A run past the turn is gathered anew.
 #[test]
-fn bytes_and_words(rt: HostRuntime) -> Result<(), Fail> {
-    let bytes = list8(&[0x02, 0x80, 0xFF])?;
-    let words = list16(&[0x02, 0x80, 0xFF])?;
+fn bytes_and_words(rt: HostRuntime) {
+    let bytes = list8(&rt, &[0x02, 0x80, 0xFF]);
+    let words = list16(&rt, &[0x02, 0x80, 0xFF]);
     are_equal(
         &rt,
         &[
             (Vs16::from_bytes(&bytes), words),
             (
-                Vs16::from_bytes(&run8(0x10, 2, 0x20)?),
-                run16(0x0010, 2, 0x20)?,
+                Vs16::from_bytes(&run8(&rt, 0x10, 2, 0x20)),
+                run16(&rt, 0x0010, 2, 0x20),
             ),
             (
-                Vs16::from_bytes(&run8(0xF8, 1, 0x18)?),
-                run16(0x0000, 1, 0x100)?,
+                Vs16::from_bytes(&run8(&rt, 0xF8, 1, 0x18)),
+                run16(&rt, 0x0000, 1, 0x100),
             ),
         ],
     );
@@ -123,10 +124,9 @@ fn bytes_and_words(rt: HostRuntime) -> Result<(), Fail> {
         &[
             (words.as_bytes(), Some(bytes)),
             (Vs16::one(0x0100).as_bytes(), None),
-            (run16(0x0000, 1, 0x20)?.as_bytes(), None),
+            (run16(&rt, 0x0000, 1, 0x20).as_bytes(), None),
         ],
     );
-    Ok(())
 }
 
 /// Answers the first number.
@@ -147,9 +147,9 @@ impl Operation for First {
 }
 
 #[test]
-fn words(rt: HostRuntime) -> Result<(), Fail> {
-    let list = list16(&[0x0400, 0x0200, 0x0400])?;
-    let all = run16(0x0000, 2, 0x8000)?;
+fn words(rt: HostRuntime) {
+    let list = list16(&rt, &[0x0400, 0x0200, 0x0400]);
+    let all = run16(&rt, 0x0000, 2, 0x8000);
     are_equal(
         &rt,
         &[
@@ -171,40 +171,47 @@ fn words(rt: HostRuntime) -> Result<(), Fail> {
         &[
             (all.add(&list), all),
             (all.sub(&list), all),
-            (list.twice(), list16(&[0x0400, 0x0800])?),
+            (list.twice(), list16(&rt, &[0x0400, 0x0800])),
             (
                 Vs16::one(0).widen(&Vs16::one(2), &[0, 0x40]),
-                run16(0x0000, 2, 0x20)?,
+                run16(&rt, 0x0000, 2, 0x20),
             ),
         ],
     );
     are_equal(&rt, &[(all.cut(0x0201, 2), Some(Vs16::one(0x0202)))]);
-    Ok(())
 }
 
-/// The least member, and the run of a form.
-#[test]
-fn forms(rt: HostRuntime) -> Result<(), Fail> {
-    let list = list16(&[0x0400, 0x0200])?;
+/// The least member of a set.
+fn least_of(set: &Vs16) -> Option<u16> {
     let place = 0;
-    if place < list.count() {
-        assert_eq!(rt; list.nth(place), 0x0200);
+    if place < set.count() {
+        Some(set.nth(place))
+    } else {
+        None
     }
-    match run16(0x0000, 2, 0x8000)?.form() {
-        Form::Run(run) => assert_eq!(rt; (run.base, run.stride, run.count), (0, 2, 0x8000)),
-        Form::Values(_) => assert!(rt; false),
+}
+
+/// The base, the stride and the count of a run.
+fn run_of(set: &Vs16) -> Option<(u16, u16, u32)> {
+    match set.form() {
+        Form::Run(run) => Some((run.base, run.stride, run.count)),
+        Form::Values(_) => None,
     }
-    Ok(())
 }
 
 #[test]
-fn combines(rt: HostRuntime) -> Result<(), Fail> {
+fn forms(rt: HostRuntime) {
+    let list = list16(&rt, &[0x0400, 0x0200]);
+    let run = run16(&rt, 0x0000, 2, 0x8000);
+    are_equal(&rt, &[(least_of(&list), Some(0x0200))]);
+    are_equal(&rt, &[(run_of(&run), Some((0, 2, 0x8000)))]);
+}
+
+#[test]
+fn combines(rt: HostRuntime) {
     let first = First { modulus: 65536 };
     let seven = Vs16::one(7);
-    assert_eq!(rt;
-        Vs16::combine(&first, &seven, &Vs16::one(1), &Vs16::one(0)),
-        seven
-    );
+    let found = Vs16::combine(&first, &seven, &Vs16::one(1), &Vs16::one(0));
+    are_equal(&rt, &[(found, seven)]);
     let First { modulus: _ } = first;
-    Ok(())
 }
