@@ -122,6 +122,18 @@ pub fn push_front(
     push_image(alloc, out, image, text.as_str())
 }
 
+/// Adds what a reader says of a piece, and whether the image has ended.
+fn push_answer(
+    out: &mut String,
+    answer: Result<usize, HexError>,
+    ended: bool,
+) -> Result<(), AllocError> {
+    match answer {
+        Ok(count) => write!(out, "{count} {ended}, "),
+        Err(error) => write!(out, "{error} {ended}, "),
+    }
+}
+
 /// Adds what a reader says of each piece, up to one that it hasn't room for, and whether the image has ended.
 fn push_fed(out: &mut String, reader: &mut Reader, pieces: &str) -> Result<(), AllocError>
     requires { length reader.old.text ≡ 0 }
@@ -132,10 +144,8 @@ fn push_fed(out: &mut String, reader: &mut Reader, pieces: &str) -> Result<(), A
             break;
         }
         room -= piece.len();
-        match reader.feed(piece.as_bytes()) {
-            Ok(count) => write!(out, "{count} {}, ", reader.ended())?,
-            Err(error) => write!(out, "{error} {}, ", reader.ended())?,
-        }
+        let answer = reader.feed(piece.as_bytes());
+        push_answer(out, answer, reader.ended())?;
     }
     Ok(())
 }

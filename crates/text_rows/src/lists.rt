@@ -171,9 +171,9 @@ fn item_of(text: &str) -> Item {
 /// Adds a list of a number: whether it is empty at first, and the number.
 fn push_few(out: &mut String, number: &str) -> Result<(), AllocError> {
     let mut few = Few::<8>::new();
-    write!(out, "{} ", few.is_empty())?;
+    let was_empty = few.is_empty();
     few.push(word_of(number));
-    write!(out, "{:?} {}", few.as_slice(), few.len())
+    write!(out, "{was_empty} {:?} {}", few.as_slice(), few.len())
 }
 
 /// Adds a list of a number that was made of a vector.

@@ -7,10 +7,10 @@ use std::alloc::{AllocError, Global};
 /// Adds how many lines a report has, and its summary.
 fn push_lines(out: &mut String, report: &Report<'_>) -> Result<(), AllocError> {
     let verdict = if report.closed { "closed" } else { "open" };
-    write!(out, "{verdict} {}, ", report.lines.len())?;
+    let (count, whole) = (report.lines.len(), report.summary.whole);
     match report.summary.extreme {
-        Some(extreme) => write!(out, "{extreme:04X} {}", report.summary.whole),
-        None => write!(out, "none {}", report.summary.whole),
+        Some(extreme) => write!(out, "{verdict} {count}, {extreme:04X} {whole}"),
+        None => write!(out, "{verdict} {count}, none {whole}"),
     }
 }
 

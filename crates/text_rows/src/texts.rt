@@ -22,6 +22,16 @@ fn made(alloc: Global, asked: &str) -> Result<Vec<u8>, Memory> {
     }
 }
 
+/// Adds a made program, or how many bytes it has.
+fn push_made(alloc: Global, out: &mut String, kind: &str, asked: &str) -> Result<(), Memory> {
+    let bytes = made(alloc, asked)?;
+    let pushed = match kind {
+        "made" => push_bytes(out, bytes.as_slice()),
+        _ => write!(out, "{}", bytes.len()),
+    };
+    Ok(pushed?)
+}
+
 /// A text that is built part by part, and the bytes of all parts.
 #[derive(Drop)]
 struct Built {
@@ -139,8 +149,7 @@ fn push_fault(alloc: Global, out: &mut String, asked: &str) -> Result<(), Memory
 /// Adds the answer to what a row asks of a text.
 pub fn push_text(alloc: Global, out: &mut String, kind: &str, asked: &str) -> Result<(), Memory> {
     match kind {
-        "made" => Ok(push_bytes(out, made(alloc, asked)?.as_slice())?),
-        "size" => Ok(write!(out, "{}", made(alloc, asked)?.len())?),
+        "made" | "size" => push_made(alloc, out, kind, asked),
         "parts" | "counted" => push_built(alloc, out, kind, asked),
         "fault" => push_fault(alloc, out, asked),
         _ => push_whole(alloc, out, asked),

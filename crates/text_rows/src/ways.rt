@@ -57,6 +57,24 @@ impl Site for Place {
     }
 }
 
+/// Where an edge from F000h leads, if a state is posted there, in the base frame and with no calls.
+fn way_of(item: &Item, node: &Node) -> Option<u16> {
+    match (item, node) {
+        (Item::Edge { from: 0xF000, to }, Node::At(at, calls, Frame::Base))
+            if at == to && calls.is_empty() => Some(*to),
+        _ => None,
+    }
+}
+
+/// Adds where a way goes, and with which number.
+fn push_way(out: &mut String, way: Option<u16>, number: u8) -> Result<(), AllocError> {
+    let blank = if out.is_empty() { "" } else { ", " };
+    match way {
+        Some(to) => write!(out, "{blank}{to:04X} {number}"),
+        None => write!(out, "{blank}other"),
+    }
+}
+
 /// Adds where each way goes, and with which number.
 fn push_each(out: &mut String, ways: &Ways<Number>) -> Result<(), AllocError> {
     let (items, posts) = (ways.items.as_slice(), ways.posts.as_slice());
@@ -64,14 +82,7 @@ fn push_each(out: &mut String, ways: &Ways<Number>) -> Result<(), AllocError> {
         return out.push_str("other edges");
     }
     for (item, (node, known)) in items.iter().zip(posts) {
-        let blank = if out.is_empty() { "" } else { ", " };
-        match (item, node) {
-            (Item::Edge { from: 0xF000, to }, Node::At(at, calls, Frame::Base))
-                if at == to && calls.is_empty() => {
-                write!(out, "{blank}{to:04X} {}", known.number)?
-            }
-            _ => write!(out, "{blank}other")?,
-        }
+        push_way(out, way_of(item, node), known.number)?;
     }
     Ok(())
 }
