@@ -56,10 +56,10 @@ pub fn push_part(out: &mut Vec<u8>, kind: &str, asked: &str) -> Result<bool, All
         "short" => push_decimal(out, short(text, count_of(front))),
         "name" => push_decimal(out, read_name(NAMES.as_slice(), asked.as_bytes())),
         "cut" => push_parts(out, cut(text, byte_of(front))),
-        "behind" => push_parts(
-            out,
-            behind(front.as_bytes(), text).map(|rest| (front.as_bytes(), rest)),
-        ),
+        "behind" => match behind(front.as_bytes(), text) {
+            Some(rest) => push_parts(out, Some((front.as_bytes(), rest))),
+            None => Ok(false),
+        },
         "has" => Ok(has(text, byte_of(front))),
         "digits" => {
             push_number(out, number_of(asked), 4)?;

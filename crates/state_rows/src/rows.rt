@@ -1,6 +1,6 @@
 //! What lines say, and whether a row holds.
 
-use crate::states::{changed, push_outside_of, push_state_of};
+use crate::states::{KnownState, changed, push_outside_of, push_state_of};
 use crate::values::push_value;
 use abs_memory::CellList;
 use call_context::{Calls, Frame, Node};
@@ -38,17 +38,23 @@ impl Rows {
     /// Does what a line says, and tells whether it holds where it is a row.
     pub fn take(&mut self, alloc: Global, line: &str) -> Result<Option<bool>, AllocError> {
         let line = text_of(alloc, line)?;
-        let (word, rest) = halves(line.as_str());
+        self.answer(alloc, line.as_str())
+    }
+
+    fn answer(&mut self, alloc: Global, line: &str) -> Result<Option<bool>, AllocError> {
+        let (word, rest) = halves(line);
         match word {
-            "" => return Ok(None),
-            "at" => return Ok(self.go_to(rest)),
-            "first" => self.first = String::from_str(alloc, rest)?,
-            _ => return self
-                .holds(alloc, line.as_str())
-                .map_err(|_| AllocError)
-                .map(Some),
+            "" => Ok(None),
+            "at" => Ok(self.go_to(rest)),
+            "first" => {
+                self.first = String::from_str(alloc, rest)?;
+                Ok(None)
+            }
+            _ => match self.holds(alloc, line) {
+                Ok(holds) => Ok(Some(holds)),
+                Err(Memory) => Err(AllocError),
+            },
         }
-        Ok(None)
     }
 
     /// Goes to a node of a chip. One that is none doesn't hold.
@@ -69,23 +75,33 @@ impl Rows {
     fn holds(&self, alloc: Global, line: &str) -> Result<bool, Memory> {
         let row = line.strip_prefix("no ");
         let (kind, rest) = halves(row.unwrap_or(line));
-        let text = match rest.split_once('=') {
+        let text = self.text_of(alloc, kind, rest)?;
+        let is_read = self.is_read(alloc, kind, text.as_str(), row.is_some())?;
+        Ok(is_read != row.is_some())
+    }
+
+    /// What a row of a kind has read: a field's value stands in the first state.
+    fn text_of(&self, alloc: Global, kind: &str, rest: &str) -> Result<String, AllocError> {
+        match rest.split_once('=') {
             Some((name, value)) if kind == "field" => {
-                changed(alloc, self.first.as_str(), name, value)?
+                changed(alloc, self.first.as_str(), name, value)
             }
-            _ => String::from_str(alloc, rest)?,
-        };
-        let (asked, wanted) = text
-            .as_str()
-            .split_once(" > ")
-            .unwrap_or((text.as_str(), text.as_str()));
+            _ => String::from_str(alloc, rest),
+        }
+    }
+
+    /// Whether a text is read, as anything or as what it says.
+    fn is_read(
+        &self,
+        alloc: Global,
+        kind: &str,
+        text: &str,
+        as_anything: bool,
+    ) -> Result<bool, Memory> {
+        let (asked, wanted) = text.split_once(" > ").unwrap_or((text, text));
         let mut out = Vec::new(alloc);
         let is_read = self.push(alloc, &mut out, kind, asked)?;
-        Ok(if row.is_some() {
-            !is_read
-        } else {
-            is_read && out.as_slice() == wanted.as_bytes()
-        })
+        Ok(is_read && (as_anything || out.as_slice() == wanted.as_bytes()))
     }
 
     /// Adds what is read of a text of a kind, and tells whether there is something.
@@ -96,25 +112,26 @@ impl Rows {
         kind: &str,
         text: &str,
     ) -> Result<bool, Memory> {
-        match (kind, self.is_mcs51) {
-            ("field" | "state", true) => push_state_of::<Mcs51>(alloc, out, &self.node, text),
-            ("field" | "state", false) => push_state_of::<Msp430>(alloc, out, &self.node, text),
-            ("outside", _) => self.push_outside(alloc, out, text),
+        match kind {
+            "field" | "state" | "outside" if self.is_mcs51 => {
+                self.push_of::<Mcs51>(alloc, out, kind, text)
+            }
+            "field" | "state" | "outside" => self.push_of::<Msp430>(alloc, out, kind, text),
             _ => push_value(alloc, out, kind, text),
         }
     }
 
-    /// Adds the field that is told where the first state has one value there, and then another.
-    fn push_outside(&self, alloc: Global, out: &mut Vec<u8>, asked: &str) -> Result<bool, Memory> {
-        let (name, values) = halves(asked);
-        let (posted, held) = halves(values);
-        let posted = changed(alloc, self.first.as_str(), name, posted)?;
-        let held = changed(alloc, self.first.as_str(), name, held)?;
-        let (posted, held) = (posted.as_str(), held.as_str());
-        if self.is_mcs51 {
-            push_outside_of::<Mcs51>(alloc, out, &self.node, posted, held)
-        } else {
-            push_outside_of::<Msp430>(alloc, out, &self.node, posted, held)
+    /// The same of a state of a chip, or of two.
+    fn push_of<S: KnownState>(
+        &self,
+        alloc: Global,
+        out: &mut Vec<u8>,
+        kind: &str,
+        text: &str,
+    ) -> Result<bool, Memory> {
+        match kind {
+            "outside" => { push_outside_of::<S>(alloc, out, &self.node, self.first.as_str(), text) }
+            _ => push_state_of::<S>(alloc, out, &self.node, text),
         }
     }
 }

@@ -1,5 +1,6 @@
 //! States of either chip, read and written.
 
+use crate::rows::halves;
 use abs_memory::CellList;
 use call_context::Node;
 use no_memory::Memory;
@@ -91,30 +92,63 @@ pub fn push_state_of<S: KnownState>(
     Ok(true)
 }
 
-/// Adds the field of one state that is told as not within that of another, its name and both values, and tells whether one is.
-/// The other state is within itself.
-pub fn push_outside_of<S: KnownState>(
-    alloc: Global,
-    out: &mut Vec<u8>,
-    node: &Node,
-    posted: &str,
-    held: &str,
-) -> Result<bool, Memory> {
-    let (posted, held) = (S::read(alloc, node, posted)?, S::read(alloc, node, held)?);
-    let (Some(posted), Some(held)) = (posted, held) else {
-        return Ok(false);
-    };
-    if held.outside(alloc, &held)?.is_some() {
-        return Ok(false);
-    }
-    let Some(told) = posted.outside(alloc, &held)? else {
-        return Ok(false);
-    };
+/// Adds a field's name and both values.
+fn push_told(out: &mut Vec<u8>, told: &Outside) -> Result<(), AllocError> {
     for part in [&told.field, &told.posted, &told.held] {
         if !out.is_empty() {
             out.push(b' ')?;
         }
         out.extend_from_slice(part.as_slice())?;
     }
+    Ok(())
+}
+
+/// Adds the field of one state that is told as not within that of another, its name and both values, and tells whether one is.
+/// The other state is within itself.
+fn push_outside<S: KnownState>(
+    alloc: Global,
+    out: &mut Vec<u8>,
+    posted: &S,
+    held: &S,
+) -> Result<bool, Memory> {
+    if held.outside(alloc, held)?.is_some() {
+        return Ok(false);
+    }
+    let Some(told) = posted.outside(alloc, held)? else {
+        return Ok(false);
+    };
+    let pushed = push_told(out, &told);
+    drop(told);
+    pushed?;
     Ok(true)
+}
+
+/// The first state of a chip with this value in the field of a name, if it is one at a node.
+fn read_changed<S: KnownState>(
+    alloc: Global,
+    node: &Node,
+    first: &str,
+    name: &str,
+    value: &str,
+) -> Result<Option<S>, Memory> {
+    let text = changed(alloc, first, name, value)?;
+    S::read(alloc, node, text.as_str())
+}
+
+/// Adds the field that is told where the first state has one value there, and then another.
+pub fn push_outside_of<S: KnownState>(
+    alloc: Global,
+    out: &mut Vec<u8>,
+    node: &Node,
+    first: &str,
+    asked: &str,
+) -> Result<bool, Memory> {
+    let (name, values) = halves(asked);
+    let (posted, held) = halves(values);
+    let posted = read_changed::<S>(alloc, node, first, name, posted)?;
+    let held = read_changed::<S>(alloc, node, first, name, held)?;
+    match posted.zip(held) {
+        Some((posted, held)) => push_outside(alloc, out, &posted, &held),
+        None => Ok(false),
+    }
 }

@@ -107,6 +107,14 @@ fn push_node_of(out: &mut Vec<u8>, node: Option<Node>, digits: u8) -> Result<boo
     Ok(true)
 }
 
+/// Whether the words that a text is are all even.
+fn is_even(text: &[u8]) -> Option<bool> {
+    match read_word_set(text) {
+        Some(set) => Some(is_even_set(&set)),
+        None => None,
+    }
+}
+
 /// Adds a text where it is what a row asks.
 fn push_if(out: &mut Vec<u8>, is: bool, text: &[u8]) -> Result<bool, Memory> {
     if is {
@@ -129,16 +137,8 @@ pub fn push_value(
         "word" => push_word_of(out, true, text),
         "plain" => push_word_of(out, false, text),
         "bytes" => push_if(out, read_byte_set(text).is_some(), text),
-        "odd" => push_if(
-            out,
-            read_word_set(text).is_some_and(|set| !is_even_set(&set)),
-            text,
-        ),
-        "even" => push_if(
-            out,
-            read_word_set(text).is_some_and(|set| is_even_set(&set)),
-            text,
-        ),
+        "odd" => push_if(out, is_even(text) == Some(false), text),
+        "even" => push_if(out, is_even(text) == Some(true), text),
         "cells" => push_cells_of(alloc, out, text),
         "ranges" => push_ranges_of(alloc, out, text),
         "bits" => push_bits_of(out, text),
