@@ -9,12 +9,18 @@ use crate::values::Put;
 use abs_memory::CellList;
 use abs_pages::CellPages;
 use entry_value::Cells;
-use irq_frames::{Ranges, resume_cells, unrelated};
+use irq_frames::{Ranges, unrelated};
 use no_memory::Memory;
 use std::alloc::Global;
 
 /// The most addresses that are read behind a call.
 const MOST_PLACES: u16 = 0x100;
+
+/// Whether values are read of cells once relations are left out.
+fn is_unrelated<C: Cells>(alloc: Global, cells: &C, puts: &[Put]) -> Result<bool, Memory> {
+    let cells = unrelated(alloc, cells)?;
+    Ok(are_read(&cells, puts))
+}
 
 /// Cells as a list and as pages.
 #[derive(Drop)]
@@ -35,10 +41,14 @@ impl Walk {
     pub fn new(alloc: Global, low: u16, high: u16, mark: u16) -> Result<Walk, Memory>
         requires { low ≤ high }
     {
+        let lists = Kept::new(alloc, low, high).ok();
+        let pages = Kept::new(alloc, low, high).ok();
+        let plain = Plain::new(alloc).ok();
+        let ((lists, pages), plain) = lists.zip(pages).zip(plain).ok_or(Memory)?;
         Ok(Walk {
-            lists: Kept::new(alloc, low, high)?,
-            pages: Kept::new(alloc, low, high)?,
-            plain: Plain::new(alloc)?,
+            lists,
+            pages,
+            plain,
             base: low.wrapping_sub(8),
             places: (high - low).saturating_add(17).min(MOST_PLACES),
             mark,
@@ -56,6 +66,15 @@ impl Walk {
     ) -> Result<bool, Memory> {
         self.lists.call(alloc, call, puts, marks)?;
         self.pages.call(alloc, call, puts, marks)?;
+        self.write_plain(call, puts);
+        if self.pages.these.next(u32::from(self.mark)).is_some() {
+            self.marked = self.marked.wrapping_add(1);
+        }
+        Ok(self.is_sound())
+    }
+
+    /// Writes into the plain RAM what a call on cells writes.
+    fn write_plain(&mut self, call: Call, puts: &[Put]) {
         if matches!(
             call,
             Call::Write | Call::WriteAny | Call::Join | Call::Widen
@@ -64,18 +83,14 @@ impl Walk {
                 self.plain.write(put);
             }
         }
-        if self.pages.these.next(u32::from(self.mark)).is_some() {
-            self.marked = self.marked.wrapping_add(1);
-        }
-        Ok(
-            are_same(&self.lists, &self.pages, self.base, self.places)
-                && self
-                    .plain
-                    .is_held(&self.lists.these, self.base, self.places)
-                && self
-                    .plain
-                    .is_held(&self.pages.these, self.base, self.places),
-        )
+    }
+
+    /// Whether both have the same cells, which hold of the plain RAM.
+    fn is_sound(&self) -> bool {
+        let (base, places) = (self.base, self.places);
+        are_same(&self.lists, &self.pages, base, places)
+            && self.plain.is_held(&self.lists.these, base, places)
+            && self.plain.is_held(&self.pages.these, base, places)
     }
 
     pub fn are_read(&self, puts: &[Put]) -> bool {
@@ -100,17 +115,15 @@ impl Walk {
 
     /// Whether values are read once relations are left out.
     pub fn are_unrelated(&self, alloc: Global, puts: &[Put]) -> Result<bool, Memory> {
-        let list = unrelated(alloc, &self.lists.these)?;
-        let pages = unrelated(alloc, &self.pages.these)?;
-        Ok(are_read(&list, puts) && are_read(&pages, puts))
+        Ok(
+            is_unrelated(alloc, &self.lists.these, puts)?
+                && is_unrelated(alloc, &self.pages.these, puts)?,
+        )
     }
 
     /// Lets cells go on behind a handler whose exit has the others.
     pub fn resume(&mut self, alloc: Global, held: &Fourth, touched: &Ranges) -> Result<(), Memory> {
-        let lists = &mut self.lists;
-        lists.these = resume_cells(alloc, &lists.these, held, &lists.others, touched)?;
-        let pages = &mut self.pages;
-        pages.these = resume_cells(alloc, &pages.these, held, &pages.others, touched)?;
-        Ok(())
+        self.lists.resume(alloc, held, touched)?;
+        self.pages.resume(alloc, held, touched)
     }
 }

@@ -3,8 +3,10 @@
 ghost use Rattle.std.specs.Prelude.{ℕ, ◌<◌, ◌≤◌};
 ghost use Rattle.value_set.specs.Form.{Has};
 
+use crate::ranges::Fourth;
 use crate::values::{Put, Value};
 use entry_value::{Byte, Cells, Word, bytes_stay_bytes};
+use irq_frames::{Ranges, resume_cells};
 use no_memory::Memory;
 use std::alloc::Global;
 use value_bits::w16;
@@ -147,18 +149,32 @@ impl<C: Cells> Kept<C> {
     ) -> Result<(), Memory> {
         self.before = self.these.copy(alloc)?;
         match call {
-            Call::Write => return write_all(&mut self.these, puts),
-            Call::WriteAny => return write_any_of(&mut self.these, puts),
-            Call::Exit => self.others = written(alloc, &self.none, puts)?,
+            Call::Write => write_all(&mut self.these, puts),
+            Call::WriteAny => write_any_of(&mut self.these, puts),
+            Call::Exit => {
+                self.others = written(alloc, &self.none, puts)?;
+                Ok(())
+            }
             Call::Join | Call::Widen | Call::Others => {
                 self.others = written(alloc, &self.before, puts)?;
+                self.combine(alloc, call, marks)
             }
         }
-        match call {
-            Call::Join => self.these = self.before.join(alloc, &self.others)?,
-            Call::Widen => self.these = self.before.widen(alloc, &self.others, marks)?,
-            _ => {}
-        }
+    }
+
+    /// Joins or widens with the others, if a call does.
+    fn combine(&mut self, alloc: Global, call: Call, marks: &[u16]) -> Result<(), Memory> {
+        self.these = match call {
+            Call::Join => self.before.join(alloc, &self.others)?,
+            Call::Widen => self.before.widen(alloc, &self.others, marks)?,
+            _ => return Ok(()),
+        };
+        Ok(())
+    }
+
+    /// Lets cells go on behind a handler whose exit has the others.
+    pub fn resume(&mut self, alloc: Global, held: &Fourth, touched: &Ranges) -> Result<(), Memory> {
+        self.these = resume_cells(alloc, &self.these, held, &self.others, touched)?;
         Ok(())
     }
 

@@ -46,18 +46,16 @@ mod values;
 
 use crate::rows::Rows;
 use row_parts::tell;
-use std::alloc::AllocError;
 use std::io;
 
 fn main(rt: HostRuntime) -> io::Result<()> {
     let alloc = rt.alloc();
-    let Ok(mut rows) = Rows::new(alloc) else {
-        return Err(io::Error::from(io::ErrorKind::OutOfMemory));
-    };
-    tell(rt, |line| {
-        let Ok(held) = rows.take(alloc, line) else {
-            return Err(AllocError);
-        };
-        Ok(held)
-    })
+    match Rows::new(alloc) {
+        Ok(mut rows) => {
+            let told = tell(rt, |line| rows.take(alloc, line));
+            drop(rows);
+            told
+        }
+        Err(_) => Err(io::Error::from(io::ErrorKind::OutOfMemory)),
+    }
 }

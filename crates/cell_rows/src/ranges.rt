@@ -60,6 +60,13 @@ fn are_ranges(alloc: Global, ranges: &Ranges, text: &str) -> Result<bool, Memory
     Ok(ranges.list() == wanted.as_slice())
 }
 
+/// Whether two of them together are those of a text, and both are within these.
+fn are_united(alloc: Global, ranges: &Ranges, others: &Ranges, text: &str) -> Result<bool, Memory> {
+    let both = ranges.united(alloc, others)?;
+    let within = ranges.within(&both) && others.within(&both);
+    Ok(are_ranges(alloc, &both, text)? && within)
+}
+
 /// Whether a row holds of ranges and of other ones.
 pub fn holds(
     alloc: Global,
@@ -70,18 +77,14 @@ pub fn holds(
 ) -> Result<bool, Memory> {
     match word {
         "touched" => are_ranges(alloc, ranges, rest),
-        "united" => {
-            let both = ranges.united(alloc, others)?;
-            let within = ranges.within(&both) && others.within(&both);
-            Ok(within && are_ranges(alloc, &both, rest)?)
-        }
+        "united" => are_united(alloc, ranges, others, rest),
         "covers" => Ok(ranges.within(others) == (rest == "yes")),
         _ => {
             let (at, answer) = rest.split_once(' ').unwrap_or((rest, ""));
-            let Some(at) = number_of(at) else {
-                return Ok(false);
-            };
-            Ok(ranges.has(at) == (answer == "yes"))
+            Ok(match number_of(at) {
+                Some(at) => ranges.has(at) == (answer == "yes"),
+                None => false,
+            })
         }
     }
 }

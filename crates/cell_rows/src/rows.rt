@@ -8,7 +8,8 @@ use crate::values::{Value, number_of, numbers_of, put_of, puts_of, value_of};
 use arrayvec::ArrayVec;
 use irq_frames::Ranges;
 use no_memory::Memory;
-use std::alloc::Global;
+use std::alloc::{AllocError, Global};
+use std::mem::replace;
 
 /// What the lines so far have made.
 #[derive(Drop)]
@@ -43,28 +44,31 @@ impl Rows {
     }
 
     /// Does what a line says, and tells whether it holds where it is a row. One of another form doesn't.
-    pub fn take(&mut self, alloc: Global, line: &str) -> Result<Option<bool>, Memory> {
+    pub fn take(&mut self, alloc: Global, line: &str) -> Result<Option<bool>, AllocError> {
         let (word, rest) = line.split_once(' ').unwrap_or((line, ""));
-        if let Some(call) = call_of(word) {
-            return Ok(Some(self.call(alloc, call, rest)?));
-        }
+        let held = match call_of(word) {
+            Some(call) => self.call(alloc, call, rest).map(Some),
+            None => self.answer(alloc, word, rest),
+        };
+        held.or(Err(AllocError))
+    }
+
+    fn answer(&mut self, alloc: Global, word: &str, rest: &str) -> Result<Option<bool>, Memory> {
         match word {
             "read" | "next" | "within" | "marked" | "unrelated" => {
-                Ok(Some(self.has_cells(alloc, word, rest)?))
+                self.has_cells(alloc, word, rest).map(Some)
             }
             "touched" | "united" | "covers" | "has" => {
-                Ok(Some(holds(alloc, &self.touched, &self.others, word, rest)?))
+                holds(alloc, &self.touched, &self.others, word, rest).map(Some)
             }
-            "and" | "or" | "joined" | "widened" | "inside" | "resumed" => Ok(Some(is_made(
-                word,
-                rest,
-                self.marks.as_slice(),
-            ).unwrap_or(false))),
-            _ => Ok(if self.begin(alloc, word, rest)? {
-                None
-            } else {
-                Some(false)
-            }),
+            "and" | "or" | "joined" | "widened" | "inside" | "resumed" => {
+                let made = is_made(word, rest, self.marks.as_slice());
+                Ok(Some(made == Some(true)))
+            }
+            _ => {
+                let has_begun = self.begin(alloc, word, rest)?;
+                Ok(if has_begun { None } else { Some(false) })
+            }
         }
     }
 
@@ -82,8 +86,7 @@ impl Rows {
         match word {
             "ram" => self.begin_ram(alloc, rest),
             "marks" => {
-                let marks = numbers_of(rest);
-                self.marks = marks.unwrap_or(ArrayVec::new());
+                self.marks = numbers_of(rest).unwrap_or(ArrayVec::new());
                 Ok(!self.marks.is_empty())
             }
             "untouched" => {
@@ -93,24 +96,27 @@ impl Rows {
             }
             "touch" => add(&mut self.touched, rest),
             "other" => add(&mut self.others, rest),
-            "resume" => {
-                let Some(Value::Word(held)) = value_of(rest) else {
-                    return Ok(false);
-                };
-                self.walk.resume(alloc, &Fourth { held }, &self.touched)?;
+            "resume" => self.resume(alloc, rest),
+            _ => Ok(false),
+        }
+    }
+
+    fn begin_ram(&mut self, alloc: Global, rest: &str) -> Result<bool, Memory> {
+        let numbers = numbers_of(rest).unwrap_or(ArrayVec::new());
+        match numbers.as_slice() {
+            [low, high, mark] if *low <= *high => {
+                let walk = Walk::new(alloc, *low, *high, *mark)?;
+                drop(replace(&mut self.walk, walk));
                 Ok(true)
             }
             _ => Ok(false),
         }
     }
 
-    fn begin_ram(&mut self, alloc: Global, rest: &str) -> Result<bool, Memory> {
-        let Some(numbers) = numbers_of(rest) else {
-            return Ok(false);
-        };
-        match numbers.as_slice() {
-            [low, high, mark] if *low <= *high => {
-                self.walk = Walk::new(alloc, *low, *high, *mark)?;
+    fn resume(&mut self, alloc: Global, rest: &str) -> Result<bool, Memory> {
+        match value_of(rest) {
+            Some(Value::Word(held)) => {
+                self.walk.resume(alloc, &Fourth { held }, &self.touched)?;
                 Ok(true)
             }
             _ => Ok(false),
@@ -131,17 +137,21 @@ impl Rows {
         match word {
             "within" => {
                 let (other, answer) = behind.split_once(' ').unwrap_or((behind, ""));
-                return Ok(self.walk.is_within(first, other, answer == "yes"));
+                Ok(self.walk.is_within(first, other, answer == "yes"))
             }
             "marked" => {
                 let count = number_of(first).unwrap_or(u16::MAX);
-                return Ok(self.walk.marked() > u32::from(count));
+                Ok(self.walk.marked() > u32::from(count))
             }
-            "next" => return Ok(self.is_next(first, behind)),
-            _ => {}
+            "next" => Ok(self.is_next(first, behind)),
+            _ => self.has_values(alloc, word == "read", rest),
         }
-        match puts_of(alloc, rest)? {
-            Some(puts) if word == "read" => Ok(self.walk.are_read(&puts)),
+    }
+
+    /// Whether values are read, or are once relations are left out.
+    fn has_values(&self, alloc: Global, related: bool, text: &str) -> Result<bool, Memory> {
+        match puts_of(alloc, text)? {
+            Some(puts) if related => Ok(self.walk.are_read(&puts)),
             Some(puts) => self.walk.are_unrelated(alloc, &puts),
             None => Ok(false),
         }
