@@ -65,15 +65,22 @@ impl KnownState for mcs51_state::State<CellList> {
     }
 }
 
+/// Adds a field, or one of its name with this value.
+fn push_field(text: &mut String, field: &str, name: &str, value: &str) -> Result<(), AllocError> {
+    match field.split_once('=') {
+        Some((held, _)) if held == name => write!(text, "{name}={value}"),
+        _ => text.push_str(field),
+    }
+}
+
 /// The text of a state, with this value in the field of a name.
 pub fn changed(alloc: Global, first: &str, name: &str, value: &str) -> Result<String, AllocError> {
     let mut text = String::new(alloc);
     for field in first.split(' ') {
-        let blank = if text.is_empty() { "" } else { " " };
-        match field.split_once('=') {
-            Some((held, _)) if held == name => write!(text, "{blank}{name}={value}")?,
-            _ => write!(text, "{blank}{field}")?,
+        if !text.is_empty() {
+            text.push(' ')?;
         }
+        push_field(&mut text, field, name, value)?;
     }
     Ok(text)
 }
