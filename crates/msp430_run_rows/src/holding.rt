@@ -111,13 +111,51 @@ fn ram_is_empty(machine: &Machine) -> bool {
     true
 }
 
-/// The machine behind so many steps and what the last one did, if all are done.
-fn stepped(
+/// What the last one of so many steps did, if all are done.
+fn last_items(
+    image: &Image,
+    machine: &mut Machine,
+    choices: &mut Choices,
+    steps: u8,
+) -> Option<ArrayVec<Item, 12>> {
+    let mut items = ArrayVec::new();
+    for _ in 0..steps {
+        match machine.step(image, choices) {
+            Stepped::Met(met) => items = met,
+            _ => return None,
+        }
+    }
+    Some(items)
+}
+
+/// Whether steps of a machine lead where a row says.
+fn leads_to(
+    alloc: Global,
+    image: &Image,
+    machine: &mut Machine,
+    choices: &mut Choices,
+    steps: u8,
+    end: &str,
+) -> Result<bool, AllocError> {
+    match last_items(image, machine, choices, steps) {
+        Some(_) if is_refusal(end) => Ok(stays(machine, image, choices, end)),
+        Some(items) => {
+            let is_end = end_holds(alloc, machine, items.as_slice(), end);
+            drop(items);
+            Ok(is_end? && choices.unused().count() == 0)
+        }
+        None => Ok(false),
+    }
+}
+
+/// Whether steps from a reset on lead where a row says.
+fn row_holds(
     alloc: Global,
     image: &Image,
     choices: &mut Choices,
     steps: u8,
-) -> Result<Option<(Machine, ArrayVec<Item, 12>)>, AllocError> {
+    end: &str,
+) -> Result<bool, AllocError> {
     let rules = Rules::Msp430 {
         lo: LO,
         hi: HI,
@@ -126,32 +164,9 @@ fn stepped(
     let Ok(mut machine) = Machine::reset(alloc, image, rules) else {
         return Err(AllocError);
     };
-    let mut items = ArrayVec::new();
-    for _ in 0..steps {
-        match machine.step(image, choices) {
-            Stepped::Met(met) => items = met,
-            _ => return Ok(None),
-        }
-    }
-    Ok(Some((machine, items)))
-}
-
-/// Whether steps lead where a row says.
-fn row_holds(
-    alloc: Global,
-    image: &Image,
-    choices: &mut Choices,
-    steps: u8,
-    end: &str,
-) -> Result<bool, AllocError> {
-    let Some((mut machine, items)) = stepped(alloc, image, choices, steps)? else {
-        return Ok(false);
-    };
-    if is_refusal(end) {
-        return Ok(stays(&mut machine, image, choices, end));
-    }
-    let holds = end_holds(alloc, &machine, items.as_slice(), end)?;
-    Ok(holds && choices.unused().count() == 0)
+    let holds = leads_to(alloc, image, &mut machine, choices, steps, end);
+    drop(machine);
+    holds
 }
 
 /// Whether a line holds. One of another form doesn't.
@@ -160,16 +175,12 @@ pub fn holds(alloc: Global, line: &str) -> Result<bool, AllocError> {
     let Ok(steps) = words.next().unwrap_or("").parse::<u8>() else {
         return Ok(false);
     };
-    let image = image_with(alloc, words.next().unwrap_or(""))?;
+    let pieces = words.next().unwrap_or("");
     let choices = choices_of(alloc, words.next().unwrap_or(""))?;
-    let (Some(image), Some(mut choices)) = (image, choices) else {
-        return Ok(false);
-    };
-    row_holds(
-        alloc,
-        &image,
-        &mut choices,
-        steps,
-        words.next().unwrap_or(""),
-    )
+    let image = image_with(alloc, pieces)?;
+    let end = words.next().unwrap_or("");
+    match image.zip(choices) {
+        Some((image, mut choices)) => row_holds(alloc, &image, &mut choices, steps, end),
+        None => Ok(false),
+    }
 }
