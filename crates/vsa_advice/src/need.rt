@@ -22,16 +22,23 @@ const MSP430_QUESTIONS: &str =
 const MCS51_QUESTIONS: &str =
     "A step of the MCS-51 asks, in this order, what is open: which interrupt comes, 0 for none; the high address byte of MOVX @Ri, 0 to FF; which of two at PUSH and POP of SP, 0 or 1; each byte of a register that isn't held, of external RAM, or off the image, 0 to FF; the open bits of PSW, IE and IP; A and B behind a division by 0, 0 to FF.";
 
+/// What is to be done where it can't be told which question a step asks.
+const ADD_NUMBER: &str =
+    "vsa: add a line with the number, in hexadecimal, to the script. docs/REPORT.md says all of each question.";
+
 /// What the run asks that the words and a text say, if it can be told.
 pub fn asked_of(alloc: Global, words: &[String], text: &[u8]) -> Option<Asked> {
     let Reading::Run { target, .. } = reading_of(alloc, words).ok()?? else {
         return None;
     };
     let (image, script) = parts_of(alloc, target.rules(), text)?;
-    match target {
-        Target::Msp430 { ram } => msp430_asks(alloc, &image, ram, script.as_slice()).ok()?,
-        Target::Mcs51 => mcs51_asks(alloc, &image, script.as_slice()).ok()?,
-    }
+    let asked = match target {
+        Target::Msp430 { ram } => msp430_asks(alloc, &image, ram, script.as_slice()),
+        Target::Mcs51 => mcs51_asks(alloc, &image, script.as_slice()),
+    };
+    drop(image);
+    drop(script);
+    asked.ok()?
 }
 
 /// The image and the script of a text.
@@ -41,10 +48,11 @@ fn parts_of(alloc: Global, rules: Rules, text: &[u8]) -> Option<(Image, Vec<u16>
     let front = &text[..text.len().min(MOST_BYTES)];
     let mut reader = Reader::new(alloc, rules, Tail::Second).ok()?;
     let Ok(used) = reader.feed(front) else {
+        drop(reader);
         return None;
     };
-    let image = reader.end().ok()?;
-    Some((image, script_of(alloc, &text[used..])?))
+    let image = reader.end().ok();
+    image.zip(script_of(alloc, &text[used..]))
 }
 
 /// The numbers of a script.
@@ -53,11 +61,47 @@ fn script_of(alloc: Global, text: &[u8]) -> Option<Vec<u16>> {
         return None;
     }
     let mut reader = ScriptReader::new(alloc);
-    reader.feed(text).ok()?;
-    reader.end().ok()
+    reader.feed(text).and(reader.end()).ok()
 }
 
-/// Says which number of the script is missing, what it answers, and which options there are. False says that it can't be told.
+/// Says which number of the script is missing, what it answers, and which options there are.
+fn print_asked(
+    rt: &impl Eprint,
+    asked: &Asked,
+    question: &str,
+    options: u32,
+    number: usize,
+) -> io::Result<()> {
+    let (step, pc) = (asked.step, asked.pc);
+    let place = match asked.instr.as_str() {
+        "" => "where no instruction stands",
+        instr => instr,
+    };
+    eprintln!(rt;
+        "vsa: number {number} of the script is missing: step {step}, {place} at {pc:04X}h, asks a question.\nvsa: {question}\nvsa: add a line with one of these {options} numbers, in hexadecimal, to the script. docs/REPORT.md says all of each question."
+    )
+}
+
+/// Says what is asked, and which number of the script is missing. False says that it can't be told.
+fn print_in_words(
+    rt: &impl Eprint,
+    alloc: Global,
+    asked: &Asked,
+    is_mcs51: bool,
+    number: usize,
+) -> io::Result<bool> {
+    let Some(question) = &asked.question else {
+        return Ok(false);
+    };
+    let Ok(sentence) = question_text(alloc, question, is_mcs51) else {
+        return Ok(false);
+    };
+    let printed = print_asked(rt, asked, sentence.as_str(), question.options(), number);
+    drop(sentence);
+    printed.and(Ok(true))
+}
+
+/// Says which number of the script is missing, and what it answers. False says that it can't be told.
 fn print_question(
     rt: &impl Eprint,
     alloc: Global,
@@ -68,25 +112,9 @@ fn print_question(
     let Some(asked) = asked_of(alloc, words, text) else {
         return Ok(false);
     };
-    let Some(question) = &asked.question else {
-        return Ok(false);
-    };
-    let (step, pc, options) = (asked.step, asked.pc, question.options());
-    let Ok(sentence) = question_text(alloc, question, has_word(words, "mcs51")) else {
-        return Ok(false);
-    };
-    let place = match asked.instr.as_str() {
-        "" => "where no instruction stands",
-        instr => instr,
-    };
-    eprintln!(rt;
-        "vsa: number {number} of the script is missing: step {step}, {place} at {pc:04X}h, asks a question."
-    )?;
-    eprintln!(rt; "vsa: {sentence}")?;
-    eprintln!(rt;
-        "vsa: add a line with one of these {options} numbers, in hexadecimal, to the script. docs/REPORT.md says all of each question."
-    )?;
-    Ok(true)
+    let printed = print_in_words(rt, alloc, &asked, has_word(words, "mcs51"), number);
+    drop(asked);
+    printed
 }
 
 /// The address to which the last edge of a trace goes, and the step that lacks a choice.
@@ -111,24 +139,18 @@ pub fn print_need<S: Source + Drop>(
     {
         return Ok(());
     }
-    let Some((place, step)) = lacking_step(last) else {
-        return Ok(());
-    };
-    match place {
-        Some(place) => eprintln!(rt;
-            "vsa: number {number} of the script is missing: step {step}, at {place}h, asks for a choice."
-        )?,
-        None => eprintln!(rt;
-            "vsa: number {number} of the script is missing: step {step} asks for a choice."
-        )?,
-    }
     let questions = if has_word(words, "mcs51") {
         MCS51_QUESTIONS
     } else {
         MSP430_QUESTIONS
     };
-    eprintln!(rt; "vsa: {questions}")?;
-    eprintln!(rt;
-        "vsa: add a line with the number, in hexadecimal, to the script. docs/REPORT.md says all of each question."
-    )
+    match lacking_step(last) {
+        Some((Some(place), step)) => eprintln!(rt;
+            "vsa: number {number} of the script is missing: step {step}, at {place}h, asks for a choice.\nvsa: {questions}\n{ADD_NUMBER}"
+        ),
+        Some((None, step)) => eprintln!(rt;
+            "vsa: number {number} of the script is missing: step {step} asks for a choice.\nvsa: {questions}\n{ADD_NUMBER}"
+        ),
+        None => Ok(()),
+    }
 }

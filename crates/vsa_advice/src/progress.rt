@@ -13,17 +13,24 @@ pub fn line_of(
 ) -> Result<String, AllocError> {
     let (minutes, seconds) = (second / 60, second % 60);
     let mut line = format!(in alloc; "vsa: at work for {minutes}:{seconds:02}")?;
+    add_counts(&mut line, memory, turns, (nodes, waiting)).and(Ok(line))
+}
+
+/// Adds megabytes, nodes, turns and units, as far as they are known.
+fn add_counts(
+    line: &mut String,
+    memory: Option<u64>,
+    turns: u64,
+    (nodes, waiting): (u64, u64),
+) -> Result<(), AllocError> {
     if let Some(megabytes) = memory {
         write!(line, ", {megabytes} MB")?;
     }
     if nodes > 0 {
-        write!(line, ", {nodes} nodes")?;
+        write!(line, ", {nodes} nodes, {turns} turns, {waiting} units left")
+    } else {
+        write!(line, ", {turns} turns")
     }
-    write!(line, ", {turns} turns")?;
-    if nodes > 0 {
-        write!(line, ", {waiting} units left")?;
-    }
-    Ok(line)
 }
 
 /// The megabytes that a process takes, by what the system tells of it.

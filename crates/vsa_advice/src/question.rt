@@ -12,12 +12,20 @@ fn interrupts_text(
     place: &str,
 ) -> Result<String, AllocError> {
     let mut text = String::from_str(alloc, "which interrupt comes? 0 is none")?;
+    add_interrupts(&mut text, sources, place).and(Ok(text))
+}
+
+/// Adds the options of the question which interrupt comes, and the end of the sentence.
+fn add_interrupts(
+    text: &mut String,
+    sources: &ArrayVec<u16, 14>,
+    place: &str,
+) -> Result<(), AllocError> {
     for (number, at) in sources.as_slice().iter().enumerate() {
         let option = number + 1;
         write!(text, ", {option:X} the one with its {place} at {at:04X}h")?;
     }
-    text.push('.')?;
-    Ok(text)
+    text.push('.')
 }
 
 /// The options of the question what a byte reads as.

@@ -22,7 +22,13 @@ pub enum Slip {
 /// What clap says of an error, without the lines that name the usage.
 fn sentence_of(alloc: Global, error: &Error) -> Result<String, AllocError> {
     let text = format!(in alloc; "{error}")?;
-    let text = text.as_str();
+    let sentence = String::from_str(alloc, without_usage(text.as_str()));
+    drop(text);
+    sentence
+}
+
+/// A text of clap without the lines that name the usage.
+fn without_usage(text: &str) -> &str {
     let text = text.strip_prefix("error: ").unwrap_or(text);
     let text = match text.split_once("\n\nUsage:") {
         Some((front, _)) => front,
@@ -32,7 +38,7 @@ fn sentence_of(alloc: Global, error: &Error) -> Result<String, AllocError> {
         Some((front, _)) => front,
         None => text,
     };
-    String::from_str(alloc, text.trim_end())
+    text.trim_end()
 }
 
 /// What is known of words that clap refuses.
@@ -57,11 +63,11 @@ fn first_hint(words: &[String]) -> Option<&'static str> {
 /// A text with the hint that the words give.
 fn with_hint(words: &[String], text: String) -> Result<Slip, AllocError> {
     let mut text = text;
-    if let Some(hint) = first_hint(words) {
-        text.push_str("\n  ")?;
-        text.push_str(hint)?;
-    }
-    Ok(Slip::Wrong(text))
+    let hinted = match first_hint(words) {
+        Some(hint) => write!(text, "\n  {hint}"),
+        None => Ok(()),
+    };
+    hinted.and(Ok(Slip::Wrong(text)))
 }
 
 /// What clap refuses, in words.
@@ -97,36 +103,38 @@ fn holds_ram(text: &[u8]) -> bool {
     }
 }
 
-/// What is wrong with the text of an option.
-fn wrong_text_of(
-    alloc: Global,
-    option: OptionName,
-    text: &str,
-) -> Result<Option<String>, AllocError> {
-    let name = option.word();
+/// Whether an option can't have a text.
+fn is_wrong(option: OptionName, text: &str) -> bool {
     match option.value() {
-        Value::Range if !holds_ram(text.as_bytes()) => Ok(Some(format!(in alloc;
-            "'{text}' is no range for --{name}: two addresses of four hexadecimal digits, as 0200-03FF, of which the first is even and at least 0200, and the second odd and greater"
-        )?)),
-        Value::Number { least, most } if number_in(text.as_bytes(), least, most).is_none() => {
-            Ok(Some(format!(in alloc;
-                "'{text}' is no number for --{name}: {least} to {most}, by 1 to 7 decimal digits"
-            )?))
-        }
-        _ => Ok(None),
+        Value::Range => !holds_ram(text.as_bytes()),
+        Value::Number { least, most } => number_in(text.as_bytes(), least, most).is_none(),
+        Value::Nothing => false,
     }
 }
 
-/// What is wrong with the first option whose text is wrong.
-fn wrong_text(alloc: Global, matches: &ArgMatches<'_>) -> Result<Option<String>, AllocError> {
+/// The first option whose text is wrong, and the text.
+fn wrong_option<'a>(matches: &'a ArgMatches<'_>) -> Option<(OptionName, &'a str)> {
     for option in OptionName::ALL.iter() {
         if let Some(text) = matches.get_str(option.word())
-            && let Some(wrong) = wrong_text_of(alloc, *option, text)?
+            && is_wrong(*option, text)
         {
-            return Ok(Some(wrong));
+            return Some((*option, text));
         }
     }
-    Ok(None)
+    None
+}
+
+/// What is wrong with the text of an option.
+fn wrong_text_of(alloc: Global, option: OptionName, text: &str) -> Result<String, AllocError> {
+    let name = option.word();
+    match option.value() {
+        Value::Number { least, most } => format!(in alloc;
+            "'{text}' is no number for --{name}: {least} to {most}, by 1 to 7 decimal digits"
+        ),
+        _ => format!(in alloc;
+            "'{text}' is no range for --{name}: two addresses of four hexadecimal digits, as 0200-03FF, of which the first is even and at least 0200, and the second odd and greater"
+        ),
+    }
 }
 
 /// The first mode that an option is of.
@@ -146,35 +154,28 @@ fn is_given(matches: &ArgMatches<'_>, option: OptionName) -> bool {
 }
 
 /// The first option that the mode or the chip doesn't take.
-fn foreign_option(
-    alloc: Global,
-    matches: &ArgMatches<'_>,
-    mode: Mode,
-    chip: ChipName,
-) -> Result<Option<String>, AllocError> {
+fn foreign_option(matches: &ArgMatches<'_>, mode: Mode, chip: ChipName) -> Option<OptionName> {
     for option in OptionName::ALL.iter() {
-        let (name, word) = (option.word(), mode.word());
-        if !is_given(matches, *option) {
-            continue;
-        }
-        if !option.is_of_mode(mode) {
-            return Ok(Some(match option.value() {
-                Value::Range => format!(in alloc;
-                    "{word} doesn't take --{name}: a made program has the usual RAM"
-                )?,
-                _ => {
-                    let own = mode_with(*option);
-                    format!(in alloc; "--{name} is an option of {own}, and {word} doesn't take it")?
-                }
-            }));
-        }
-        if !option.is_of_chip(chip) {
-            return Ok(Some(format!(in alloc;
-                "--{name} is an option of msp430, and mcs51 doesn't take it"
-            )?));
+        let is_own = option.is_of_mode(mode) && option.is_of_chip(chip);
+        if !is_own && is_given(matches, *option) {
+            return Some(*option);
         }
     }
-    Ok(None)
+    None
+}
+
+/// What is wrong with an option that the mode, or else the chip, doesn't take.
+fn foreign_text(alloc: Global, option: OptionName, mode: Mode) -> Result<String, AllocError> {
+    let (name, word, own) = (option.word(), mode.word(), mode_with(option));
+    if option.is_of_mode(mode) {
+        return format!(in alloc; "--{name} is an option of msp430, and mcs51 doesn't take it");
+    }
+    match option.value() {
+        Value::Range => format!(in alloc;
+            "{word} doesn't take --{name}: a made program has the usual RAM"
+        ),
+        _ => format!(in alloc; "--{name} is an option of {own}, and {word} doesn't take it"),
+    }
 }
 
 /// The range that an option says.
@@ -201,21 +202,47 @@ fn wrong_memory(matches: &ArgMatches<'_>, mode: Mode) -> &'static str {
 
 /// What the words ask, or what is wrong with them, where they are no valid command line.
 pub fn slip_of(alloc: Global, words: &[String]) -> Result<Slip, AllocError> {
-    let matches = match vsa_command(alloc)?.try_get_matches_from(words) {
-        Ok(matches) => matches,
-        Err(error) => return refused(alloc, words, &error),
-    };
+    match vsa_command(alloc)?.try_get_matches_from(words) {
+        Ok(matches) => {
+            let slip = wrong_words(alloc, words, &matches);
+            drop(matches);
+            slip
+        }
+        Err(error) => {
+            let slip = refused(alloc, words, &error);
+            drop(error);
+            slip
+        }
+    }
+}
+
+/// What is wrong with words that clap takes.
+fn wrong_words(
+    alloc: Global,
+    words: &[String],
+    matches: &ArgMatches<'_>,
+) -> Result<Slip, AllocError> {
     let mode = mode_of(matches.get_str("mode"));
     let chip = chip_of(matches.get_str("chip"));
-    let (Some(mode), Some(chip)) = (mode, chip) else {
-        return with_hint(words, wrong_place(alloc, &matches, mode)?);
-    };
-    if let Some(text) = wrong_text(alloc, &matches)? {
-        return Ok(Slip::Wrong(text));
+    match (mode, chip) {
+        (Some(mode), Some(chip)) => Ok(Slip::Wrong(wrong_options(alloc, matches, mode, chip)?)),
+        _ => with_hint(words, wrong_place(alloc, matches, mode)?),
     }
-    match foreign_option(alloc, &matches, mode, chip)? {
-        Some(text) => Ok(Slip::Wrong(text)),
-        None => Ok(Slip::Wrong(String::from_str(alloc, wrong_memory(&matches, mode))?)),
+}
+
+/// What is wrong with the options: the text of one, or that the mode or the chip doesn't take it, or the memory that they say.
+fn wrong_options(
+    alloc: Global,
+    matches: &ArgMatches<'_>,
+    mode: Mode,
+    chip: ChipName,
+) -> Result<String, AllocError> {
+    if let Some((option, text)) = wrong_option(matches) {
+        return wrong_text_of(alloc, option, text);
+    }
+    match foreign_option(matches, mode, chip) {
+        Some(option) => foreign_text(alloc, option, mode),
+        None => String::from_str(alloc, wrong_memory(matches, mode)),
     }
 }
 
@@ -223,10 +250,9 @@ pub fn slip_of(alloc: Global, words: &[String]) -> Result<Slip, AllocError> {
 pub fn print_slip(rt: &impl Eprint, alloc: Global, words: &[String]) -> io::Result<()> {
     match slip_of(alloc, words) {
         Ok(Slip::Help) => eprintln!(rt; "{USAGE}"),
-        Ok(Slip::Wrong(text)) => {
-            eprintln!(rt; "vsa: {text}")?;
-            eprintln!(rt; "vsa: ./vsa --help says which words there are.")
-        }
+        Ok(Slip::Wrong(text)) => eprintln!(rt;
+            "vsa: {text}\nvsa: ./vsa --help says which words there are."
+        ),
         Err(_) => eprintln!(rt;
             "vsa: the command line isn't valid; ./vsa --help says which words there are."
         ),
