@@ -81,23 +81,38 @@ fn row_holds(
     }
 }
 
-/// Whether a line holds. One of another form doesn't.
-pub fn holds(alloc: Global, line: &str) -> Result<bool, AllocError> {
-    let (before, after) = line.split_once('>').unwrap_or(("", ""));
-    let Some(row) = CodeRow::of(alloc, before)? else {
-        return Ok(false);
-    };
-    let mut words = row.rest.split(' ');
-    let Some(steps) = number_of(words.next().unwrap_or("")) else {
+/// Takes what stands before the steps, and says whether it is words.
+fn take_words(machine: &mut Machine, list: &mut Vec<u16>, words: &str) -> Result<bool, AllocError> {
+    for word in words.split(' ') {
+        if !take_word(machine, list, word)? {
+            return Ok(false);
+        }
+    }
+    Ok(true)
+}
+
+/// Whether a row of code leads where it says.
+fn leads_to(alloc: Global, row: &CodeRow<'_>, end: &str) -> Result<bool, AllocError> {
+    let (steps, words) = row.rest.split_once(' ').unwrap_or((row.rest, ""));
+    let Some(steps) = number_of(steps) else {
         return Ok(false);
     };
     let mut machine = machine_at(row.pc);
     let mut list = Vec::new(alloc);
-    for word in words {
-        if !take_word(&mut machine, &mut list, word)? {
-            return Ok(false);
-        }
-    }
+    let are_words = take_words(&mut machine, &mut list, words)?;
     let mut choices = Choices::new(list);
-    Ok(row_holds(&row.image, &mut machine, &mut choices, steps, after))
+    Ok(are_words && row_holds(&row.image, &mut machine, &mut choices, steps, end))
+}
+
+/// Whether a line holds. One of another form doesn't.
+pub fn holds(alloc: Global, line: &str) -> Result<bool, AllocError> {
+    let (before, after) = line.split_once('>').unwrap_or(("", ""));
+    match CodeRow::of(alloc, before)? {
+        Some(row) => {
+            let holds = leads_to(alloc, &row, after);
+            drop(row);
+            holds
+        }
+        None => Ok(false),
+    }
 }
