@@ -58,20 +58,25 @@ fn has(said: &str, part: &str) -> bool {
     }
 }
 
+/// Whether what is said of what a row asks has its part.
+fn holds(alloc: Global, word: &str, row: &str, text: &str) -> Result<bool, AllocError> {
+    let (asked, part) = row.split_once('|').unwrap_or((row, ""));
+    let said = said(alloc, word, asked.trim_end(), text)?;
+    Ok(has(said.as_str(), part.trim()))
+}
+
 /// Does what a line says, and tells whether it holds where it is a row.
 fn take(alloc: Global, text: &mut String, line: &str) -> Result<Option<bool>, AllocError> {
     let (word, rest) = line.split_once(' ').unwrap_or((line, ""));
     match word {
-        "" | "#" => return Ok(None),
-        "text" => *text = text_of(alloc, rest)?,
-        "+" => add_line(text, rest)?,
-        _ => {
-            let (asked, part) = rest.split_once('|').unwrap_or((rest, ""));
-            let said = said(alloc, word, asked.trim_end(), text.as_str())?;
-            return Ok(Some(has(said.as_str(), part.trim())));
+        "" | "#" => Ok(None),
+        "text" => {
+            *text = text_of(alloc, rest)?;
+            Ok(None)
         }
+        "+" => add_line(text, rest).and(Ok(None)),
+        _ => holds(alloc, word, rest, text.as_str()).map(Some),
     }
-    Ok(None)
 }
 
 fn main(rt: HostRuntime) -> io::Result<()> {

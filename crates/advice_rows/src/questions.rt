@@ -29,25 +29,46 @@ fn image_text(alloc: Global, at: u16, code: &[u8]) -> Result<String, AllocError>
     Ok(text)
 }
 
-/// What a run asks of a chip, the digits of code, and the numbers of a script: the number of the step, and the question.
-pub fn asks(alloc: Global, asked: &str) -> Result<String, AllocError> {
-    let (chip, rest) = asked.split_once(' ').unwrap_or((asked, ""));
-    let (digits, script) = rest.split_once(' ').unwrap_or((rest, ""));
-    let Some(code) = bytes(alloc, digits.as_bytes())? else {
-        return String::from_str(alloc, "no digits");
-    };
-    let is_mcs51 = chip == "mcs51";
-    let mut text = image_text(alloc, if is_mcs51 { 0 } else { 0xF000 }, code.as_slice())?;
+/// The words that ask for a run of a chip.
+fn run_words(alloc: Global, chip: &str) -> Result<Vec<String>, AllocError> {
+    let line = format!(in alloc; "run {chip}")?;
+    words_of(alloc, line.as_str())
+}
+
+/// The image text of code, and the numbers of a script behind it.
+fn input_of(
+    alloc: Global,
+    is_mcs51: bool,
+    code: &[u8],
+    script: &str,
+) -> Result<String, AllocError> {
+    let mut text = image_text(alloc, if is_mcs51 { 0 } else { 0xF000 }, code)?;
     for number in script.split_ascii_whitespace() {
         writeln!(text, "{number}")?;
     }
-    let line = format!(in alloc; "run {chip}")?;
-    let words = words_of(alloc, line.as_str())?;
-    if let Some(asked) = asked_of(alloc, words.as_slice(), text.as_str().as_bytes())
+    Ok(text)
+}
+
+/// What a run asks of a chip, code, and the numbers of a script: the number of the step, and the question.
+fn asked_by(alloc: Global, chip: &str, code: &[u8], script: &str) -> Result<String, AllocError> {
+    let is_mcs51 = chip == "mcs51";
+    let words = run_words(alloc, chip)?;
+    let input = input_of(alloc, is_mcs51, code, script)?;
+    if let Some(asked) = asked_of(alloc, words.as_slice(), input.as_str().as_bytes())
         && let Some(question) = &asked.question
     {
         let said = question_text(alloc, question, is_mcs51)?;
         return format!(in alloc; "step {}: {said}", asked.step);
     }
     String::from_str(alloc, "none")
+}
+
+/// The same of the digits of code.
+pub fn asks(alloc: Global, asked: &str) -> Result<String, AllocError> {
+    let (chip, rest) = asked.split_once(' ').unwrap_or((asked, ""));
+    let (digits, script) = rest.split_once(' ').unwrap_or((rest, ""));
+    match bytes(alloc, digits.as_bytes())? {
+        Some(code) => asked_by(alloc, chip, code.as_slice(), script),
+        None => String::from_str(alloc, "no digits"),
+    }
 }

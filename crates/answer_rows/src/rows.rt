@@ -11,7 +11,7 @@ use std::str;
 use std::sync::Wait;
 use std::thread::Threads;
 use vsa_io::{MemSink, MemSource, Memory};
-use vsa_top::{Msp430Code, NoGate, vsa};
+use vsa_top::{Msp430Code, NoGate, Status, vsa};
 
 /// Which part of what is written an answer is.
 #[derive(Clone, Copy)]
@@ -47,6 +47,16 @@ fn are_moves(report: &[u8], lines: &str) -> bool {
     lines.next().is_none()
 }
 
+/// What a call by these words answers.
+fn status_of<R: Threads + Wait + AllocGlobal + Sync>(
+    rt: &R,
+    words: &[String],
+    source: &mut MemSource,
+    sink: &mut MemSink,
+) -> Status {
+    vsa(rt, rt.alloc(), words, source, sink, &NoGate).status
+}
+
 impl Rows {
     pub fn new(alloc: Global) -> Rows {
         Rows {
@@ -67,34 +77,52 @@ impl Rows {
     ) -> Result<Option<bool>, AllocError> {
         let alloc = rt.alloc();
         let (word, rest) = line.split_once(' ').unwrap_or((line, ""));
+        let done = match word {
+            "" | "#" => Ok(()),
+            "input" | "+" | "feeds" => self.take_input(alloc, word, rest),
+            ">" => add_line(&mut self.answer, rest),
+            "repeat" => self.repeat(alloc, rest),
+            "answer" => self.answer_by(alloc, Part::Whole, rest),
+            "front" => self.answer_by(alloc, Part::Front, rest),
+            "back" => self.answer_by(alloc, Part::Back, rest),
+            "moves" => self.answer_by(alloc, Part::Moves, rest),
+            "source" | "sink" | "sound" | "times" => self.take_way(alloc, word, rest),
+            _ => return self.holds(rt, word, rest).map(Some),
+        };
+        done.and(Ok(None))
+    }
+
+    /// Begins the input, or adds to it.
+    fn take_input(&mut self, alloc: Global, word: &str, rest: &str) -> Result<(), AllocError> {
         match word {
-            "" | "#" => {}
-            "input" => self.input = text_of(alloc, rest)?,
-            "+" => add_line(&mut self.input, rest)?,
-            "feeds" => self.feed(rest)?,
-            "answer" => self.answer_by(Part::Whole, text_of(alloc, rest)?),
-            "front" => self.answer_by(Part::Front, text_of(alloc, rest)?),
-            "back" => self.answer_by(Part::Back, text_of(alloc, rest)?),
-            "moves" => self.answer_by(Part::Moves, text_of(alloc, rest)?),
-            ">" => add_line(&mut self.answer, rest)?,
-            "repeat" => self.repeat(alloc, rest)?,
+            "input" => {
+                self.input = text_of(alloc, rest)?;
+                Ok(())
+            }
+            "+" => add_line(&mut self.input, rest),
+            _ => self.feed(rest),
+        }
+    }
+
+    /// Sets how the streams go, or how often rows are asked.
+    fn take_way(&mut self, alloc: Global, word: &str, rest: &str) -> Result<(), AllocError> {
+        match word {
             "source" => self.source = Some(Way::of_source(alloc, rest)?),
             "sink" => self.sink = Some(Way::of_sink(alloc, rest)?),
             "sound" => {
                 self.source = None;
                 self.sink = None;
             }
-            "times" => self.times = rest.parse::<u32>().unwrap_or(1),
-            "listing" => return Ok(Some(self.is_listing(alloc, rest)?)),
-            "at-once" => return Ok(Some(self.is_at_once(rt, rest)?)),
-            _ => return Ok(Some(self.holds(rt, word, rest)?)),
+            _ => self.times = rest.parse::<u32>().unwrap_or(1),
         }
-        Ok(None)
+        Ok(())
     }
 
-    fn answer_by(&mut self, part: Part, answer: String) {
+    /// Begins an answer.
+    fn answer_by(&mut self, alloc: Global, part: Part, text: &str) -> Result<(), AllocError> {
         self.part = part;
-        self.answer = answer;
+        self.answer = text_of(alloc, text)?;
+        Ok(())
     }
 
     /// Adds line feeds, until the input has so many bytes.
@@ -125,6 +153,20 @@ impl Rows {
         Ok(self.is_part_of(lines.as_slice()))
     }
 
+    /// Whether a row holds.
+    fn holds<R: Threads + Wait + AllocGlobal + Sync>(
+        &self,
+        rt: &R,
+        word: &str,
+        rest: &str,
+    ) -> Result<bool, AllocError> {
+        match word {
+            "listing" => self.is_listing(rt.alloc(), rest),
+            "at-once" => self.is_at_once(rt, rest),
+            _ => self.is_always_answered(rt, word, rest),
+        }
+    }
+
     /// Whether the call by these words has two workers work at once.
     fn is_at_once<R: Threads + Wait + AllocGlobal + Sync>(
         &self,
@@ -132,13 +174,12 @@ impl Rows {
         line: &str,
     ) -> Result<bool, AllocError> {
         let words = words_of(rt.alloc(), line)?;
-        let mut source = self.source(rt.alloc(), 4096)?;
-        let mut sink = self.sink(rt.alloc(), 4096)?;
+        let (mut source, mut sink) = self.streams(rt.alloc(), 4096)?;
         Ok(work_at_once(rt, words.as_slice(), &mut source, &mut sink))
     }
 
     /// Whether the call by these words answers as it should, each time, by small pieces and by large ones.
-    fn holds<R: Threads + Wait + AllocGlobal + Sync>(
+    fn is_always_answered<R: Threads + Wait + AllocGlobal + Sync>(
         &self,
         rt: &R,
         status: &str,
@@ -165,11 +206,21 @@ impl Rows {
     ) -> Result<bool, AllocError>
         requires { 0 < piece }
     {
-        let mut source = self.source(rt.alloc(), piece)?;
-        let mut sink = self.sink(rt.alloc(), piece)?;
-        let outcome = vsa(rt, rt.alloc(), words, &mut source, &mut sink, &NoGate);
-        let told = format!(in rt.alloc(); "{:?}", outcome.status)?;
-        Ok(told.as_str() == status && self.is_part_of(sink.bytes()))
+        let (mut source, mut sink) = self.streams(rt.alloc(), piece)?;
+        let told = status_of(rt, words, &mut source, &mut sink);
+        let is_written = self.is_part_of(sink.bytes());
+        drop((source, sink));
+        let told = format!(in rt.alloc(); "{told:?}")?;
+        Ok(is_written && told.as_str() == status)
+    }
+
+    /// The source and the sink, of such pieces where no row says others.
+    fn streams(&self, alloc: Global, piece: usize) -> Result<(MemSource, MemSink), AllocError>
+        requires { 0 < piece }
+    {
+        let source = self.source(alloc, piece).ok();
+        let sink = self.sink(alloc, piece).ok();
+        source.zip(sink).ok_or(AllocError)
     }
 
     fn source(&self, alloc: Global, piece: usize) -> Result<MemSource, AllocError>
