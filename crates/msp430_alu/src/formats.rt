@@ -1,6 +1,6 @@
 //! What the formats of instructions write, show and go on to.
 
-ghost use Rattle.std.specs.Prelude.{◌≡◌, ℕ, ◌<◌, ◌≤◌, ◌++◌, true, OnOk};
+ghost use Rattle.std.specs.Prelude.{◌≡◌, ℕ, ◌<◌, ◌≤◌, ◌++◌, true, IfOk, OnOk};
 ghost use Rattle.value_set.specs.Form.{Has};
 ghost use Rattle.msp430_chip.specs.Arithmetic as arithmetic;
 ghost use Rattle.msp430_chip.specs.Memory as chip;
@@ -39,29 +39,30 @@ pub(crate) fn writes_result(operation: Operation) -> bool
     !matches!(operation, Operation::Cmp | Operation::Bit)
 }
 
-/// Writes a word to a place. Behind an error the state is of no use.
+/// The state behind a write of a word to a place.
 pub(crate) fn put<M: Cells>(
     here: &Here<M>,
-    state: &mut State<M>,
+    mut state: State<M>,
     width: Width,
     reach: &Reach,
     word: Word,
-) -> Result<(), Memory>
+) -> Result<State<M>, Memory>
     requires ram { HasRam here.now.device.now }
     requires byte { chip.size_of width ≡ 1 → (v : ℕ) → Has 65536 word.set v → v < 256 }
-    ensures { OnOk result (state.new ≡ formats.put_known here.now.device.now here.now.framed state.old width reach.now word) }
+    ensures { IfOk result (λ after. after ≡ formats.put_known here.now.device.now here.now.framed state width reach.now word) }
 {
     match reach {
-        Reach::InRegister(register) => {
-            put_register(state, *register, word);
-            Ok(())
-        }
+        Reach::InRegister(register) => put_register(&mut state, *register, word),
         Reach::InMemory(set) => {
             let at = located(here.device, width, set);
-            store(here.device, here.framed, state, width, &at, word)
+            if let Err(memory) = store(here.device, here.framed, &mut state, width, &at, word) {
+                drop(state);
+                return Err(memory);
+            }
         }
-        Reach::Fixed(_) => Ok(()),
+        Reach::Fixed(_) => {}
     }
+    Ok(state)
 }
 
 /// The next address behind a write to a place: what is written to PC, and else what follows.

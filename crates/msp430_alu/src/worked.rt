@@ -121,24 +121,24 @@ fn single_result(
     single_made(operation, width, operand, carry, None)
 }
 
-/// Writes a result, if the operation does.
+/// The state behind the write of a result, if the operation writes one.
 fn put_result<M: Cells>(
     here: &Here<M>,
-    state: &mut State<M>,
+    state: State<M>,
     operation: Operation,
     width: Width,
     reach: &Reach,
     word: Word,
-) -> Result<(), Memory>
+) -> Result<State<M>, Memory>
     requires ram { HasRam here.now.device.now }
     requires byte { chip.size_of width ≡ 1 → (v : ℕ) → Has 65536 word.set v → v < 256 }
-    ensures { OnOk result (state.new ≡ formats.put_known_if (arithmetic.writes_result operation)
-        here.now.device.now here.now.framed state.old width reach.now word) }
+    ensures { IfOk result (λ after. after ≡ formats.put_known_if (arithmetic.writes_result operation)
+        here.now.device.now here.now.framed state width reach.now word) }
 {
     if writes_result(operation) {
         return put(here, state, width, reach, word);
     }
-    Ok(())
+    Ok(state)
 }
 
 /// The next address behind an operation with two operands.
@@ -269,23 +269,15 @@ pub fn double<M: Cells>(
         &target,
         carry,
     );
-    if let Err(memory) = put_result(here, &mut after, operation, width, &to, word) {
-        drop(after);
-        return Err(memory);
-    }
+    let mut after = put_result(here, after, operation, width, &to, word)?;
     set_flag_bits(&mut after, flags);
-    match double_accesses(alloc, here, operation, width, &from, &to) {
-        Ok(accesses) => Ok(Worked {
-            after,
-            next: double_next(operation, &to, &word, here.behind()),
-            accesses,
-            store: double_store(here.device, operation, width, &to),
-        }),
-        Err(memory) => {
-            drop(after);
-            Err(memory)
-        }
-    }
+    let accesses = double_accesses(alloc, here, operation, width, &from, &to)?;
+    Ok(Worked {
+        after,
+        next: double_next(operation, &to, &word, here.behind()),
+        accesses,
+        store: double_store(here.device, operation, width, &to),
+    })
 }
 
 /// What an instruction with one operand makes of what is known of a state, but for PUSH and CALL, which [`push`] makes. SWPB
@@ -310,23 +302,15 @@ pub fn single<M: Cells>(
     let (word, flags) = single_result(operation, width, &held_so, carry_of(here.state));
     let mut after = here.state.copy(alloc)?;
     grow(&mut after, &counted, width, operand);
-    if let Err(memory) = put(here, &mut after, width, &from, word) {
-        drop(after);
-        return Err(memory);
-    }
+    let mut after = put(here, after, width, &from, word)?;
     set_flag_bits(&mut after, flags);
-    match two_accesses(alloc, here, width, &from, width, &from) {
-        Ok(accesses) => Ok(Worked {
-            after,
-            next: next_by(&from, &word, behind),
-            accesses,
-            store: store_of(here.device, width, &from),
-        }),
-        Err(memory) => {
-            drop(after);
-            Err(memory)
-        }
-    }
+    let accesses = two_accesses(alloc, here, width, &from, width, &from)?;
+    Ok(Worked {
+        after,
+        next: next_by(&from, &word, behind),
+        accesses,
+        store: store_of(here.device, width, &from),
+    })
 }
 
 /// Where the operand of PUSH or CALL stands and what it holds. Behind it SP is as before.
@@ -372,20 +356,12 @@ pub fn push<M: Cells>(
     lower(&mut after);
     let top = Reach::InMemory(after.sp);
     let value = pushed(operation, width, word, behind);
-    if let Err(memory) = put(here, &mut after, Width::Word, &top, value) {
-        drop(after);
-        return Err(memory);
-    }
-    match two_accesses(alloc, here, width, &from, Width::Word, &top) {
-        Ok(accesses) => Ok(Worked {
-            after,
-            next: called_next(operation, width, &word, behind),
-            accesses,
-            store: store_of(here.device, Width::Word, &top),
-        }),
-        Err(memory) => {
-            drop(after);
-            Err(memory)
-        }
-    }
+    let after = put(here, after, Width::Word, &top, value)?;
+    let accesses = two_accesses(alloc, here, width, &from, Width::Word, &top)?;
+    Ok(Worked {
+        after,
+        next: called_next(operation, width, &word, behind),
+        accesses,
+        store: store_of(here.device, Width::Word, &top),
+    })
 }
