@@ -1,5 +1,5 @@
 -- The accesses that an instruction makes are shown, and a store that hits the program is one of the open ones.
-use Rattle.std.proofs.Common.{◌≡◌, ℕ, ◌+◌, ◌-◌, ◌%◌, ◌++◌, Bool, true, false, Option, None, Some, List, get_or, set, refl, sym, ap, ◌∙◌, subst, inl, inr, arith, Contains, get_or-set_other}
+use Rattle.std.proofs.Common.{◌≡◌, ℕ, ◌-◌, ◌%◌, ◌++◌, Bool, true, false, Option, None, Some, List, get_or, set, refl, sym, ap, ◌∙◌, subst, inl, inr, arith, get_or-set_other}
 use Rattle.std.proofs.lemmas.List.Elements.{Contains-append_cases, Contains-append_left, Contains-append_right}
 use Rattle.plain_lemmas.specs.Members.{in_none, in_one}
 use Rattle.call_context.specs.Showing.{Shows}

@@ -13,7 +13,6 @@ use Rattle.msp430_decode.specs.declared.instr.Width.{Width}
 use Rattle.msp430_decode.specs.declared.instr.Width.TheVariants.{Word as Words, Byte}
 use Rattle.msp430_chip.specs.declared.device.Device.{Device}
 use Rattle.msp430_chip.specs.Memory.{aligned, canon_by, size_of, HasRam}
-use Rattle.msp430_chip.specs.State.{even}
 use Rattle.msp430_state.specs.Forms.{AreEvenWords}
 use Rattle.msp430_results.specs.FlagSets.{IsResult}
 use Rattle.msp430_alu.specs.Memory.{canonical_by, located, moved, of_both}
