@@ -10,8 +10,8 @@
 //! - `progress SECOND MEGABYTES TURNS NODES WAITING`: how far an analysis is, and `memory`: the megabytes that the text tells.
 //! - `input TEXT` and `bytes DIGITS`: what an input is that begins so.
 //! - `vain WORDS` and `overwritten WORDS`: what is seen of the text, as the report that these words ask for.
-//! - `numbers PIECES` and `address PIECES LINE`: how many numbers the script has, and the address of a record, behind so many
-//!   pieces of sixteen bytes of the text.
+//! - `second PIECES` and `address PIECES LINE`: how many lines behind the end record aren't blank, and the address of a record,
+//!   behind so many pieces of sixteen bytes of the text. `unasked WORDS`: whether the words ask for assertions that it lacks.
 //! - `asks CHIP CODE SCRIPT`: what a run asks of code at F000h of the MSP430, or at 0000h of the MCS-51, along a script.
 #![tactic(auto)]
 
@@ -23,7 +23,7 @@ mod words;
 
 use crate::questions::asks;
 use crate::reports::{overwritten, vain};
-use crate::sources::{address, numbers};
+use crate::sources::{address, second, unasked};
 use crate::texts::{binary, input, memory, progress};
 use crate::words::{number, range, slip, usage};
 use row_parts::{add_line, tell, text_of};
@@ -43,7 +43,8 @@ fn said(alloc: Global, word: &str, asked: &str, text: &str) -> Result<String, Al
         "bytes" => binary(alloc, asked),
         "vain" => vain(alloc, asked, text),
         "overwritten" => overwritten(alloc, asked, text),
-        "numbers" => numbers(alloc, asked, text),
+        "second" => second(alloc, asked, text),
+        "unasked" => unasked(alloc, asked, text),
         "address" => address(alloc, asked, text),
         "asks" => asks(alloc, asked),
         _ => String::from_str(alloc, "no such row"),

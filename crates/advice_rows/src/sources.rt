@@ -1,7 +1,8 @@
 //! What a source remembers of a text that was read in pieces.
 
+use row_parts::words_of;
 use std::alloc::{AllocError, Global};
-use vsa_advice::NotedSource;
+use vsa_advice::{NotedSource, lacks_assertions};
 use vsa_io::{CleanSource, Source};
 
 /// How many bytes a read gives.
@@ -27,10 +28,17 @@ fn number_of(text: Option<&str>) -> usize {
     text.unwrap_or("").parse::<usize>().unwrap_or(0)
 }
 
-/// How many numbers the script of a text has, behind so many reads.
-pub fn numbers(alloc: Global, asked: &str, text: &str) -> Result<String, AllocError> {
+/// How many lines of the second text aren't blank, behind so many reads.
+pub fn second(alloc: Global, asked: &str, text: &str) -> Result<String, AllocError> {
     let source = read_of(alloc, text, number_of(Some(asked)))?;
-    format!(in alloc; "{}", source.numbers())
+    format!(in alloc; "{}", source.second_lines())
+}
+
+/// Whether words ask for assertions and the text has none, behind as many reads as it takes.
+pub fn unasked(alloc: Global, asked: &str, text: &str) -> Result<String, AllocError> {
+    let source = read_of(alloc, text, text.len() / PIECE + 1)?;
+    let words = words_of(alloc, asked)?;
+    format!(in alloc; "{}", lacks_assertions(words.as_slice(), &source))
 }
 
 /// The address of the record in a line, behind so many reads.

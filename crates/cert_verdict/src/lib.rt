@@ -7,8 +7,7 @@
 //!   ([`closed_tables_have_their_report`]).
 //! - The certificate of a closed book gives the book's own report, where the stacks of the chip grow one way
 //!   ([`own_certificates_are_closed`]).
-//! - The report that is told of a closed table is that of a closed book, whose report covers every run of the chip
-//!   ([`closed_verdicts_tell_closed_books`]).
+//! - The report that is told of a closed table is that of a closed book ([`closed_verdicts_tell_closed_books`]).
 #![tactic(auto)]
 
 mod laws;

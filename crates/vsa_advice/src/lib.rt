@@ -24,4 +24,4 @@ pub use question::question_text;
 pub use slips::{Slip, print_slip, slip_of};
 pub use source::{NotedSource, kept_text};
 pub use usage::USAGE;
-pub use warnings::{print_warnings, watch_of};
+pub use warnings::{lacks_assertions, print_unasked, print_warnings, watch_of};

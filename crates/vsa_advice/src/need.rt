@@ -133,7 +133,7 @@ pub fn print_need<S: Source + Drop>(
     last: &[u8],
     source: &NotedSource<S>,
 ) -> io::Result<()> {
-    let number = source.numbers().saturating_add(1);
+    let number = source.second_lines().saturating_add(1);
     if let Some(text) = source.text()
         && print_question(rt, alloc, words, text, number)?
     {

@@ -28,10 +28,10 @@ struct Place {
     len: usize,
     /// Whether an earlier line moves the addresses of those behind it.
     is_moved: bool,
-    /// Whether the line is behind the end record, in a script.
-    is_script: bool,
-    /// How many lines of the script in front of it have a number.
-    numbers: usize,
+    /// Whether the line is behind the end record, in a second text.
+    is_second: bool,
+    /// How many lines of the second text in front of it aren't blank.
+    filled: usize,
 }
 
 impl Place {
@@ -42,8 +42,8 @@ impl Place {
             head: [0; HEAD],
             len: 0,
             is_moved: false,
-            is_script: false,
-            numbers: 0,
+            is_second: false,
+            filled: 0,
         }
     }
 
@@ -52,19 +52,19 @@ impl Place {
         &self.head[..self.len.min(HEAD)]
     }
 
-    /// Whether the line is one of a script, and not blank as far as it is known.
-    fn has_number(&self) -> bool {
-        self.is_script && self.head().iter().any(|byte| !byte.is_ascii_whitespace())
+    /// Whether the line is one of a second text, and not blank as far as it is known.
+    fn is_filled(&self) -> bool {
+        self.is_second && self.head().iter().any(|byte| !byte.is_ascii_whitespace())
     }
 
     /// Goes behind a byte.
     fn pass(&mut self, byte: u8) {
         if byte == b'\n' {
-            if self.has_number() {
-                self.numbers = self.numbers.saturating_add(1);
+            if self.is_filled() {
+                self.filled = self.filled.saturating_add(1);
             }
             self.is_moved = self.is_moved || moves(self.head());
-            self.is_script = self.is_script || ends(self.head());
+            self.is_second = self.is_second || ends(self.head());
             self.line = self.line.saturating_add(1);
             self.len = 0;
         } else if self.len < HEAD {
@@ -121,10 +121,10 @@ impl<S: Source + Drop> NotedSource<S> {
         self.first.as_slice()
     }
 
-    /// How many numbers the script has of which a line was read.
-    pub fn numbers(&self) -> usize {
+    /// How many lines of the second text were read that aren't blank: the numbers of a script, or assertions.
+    pub fn second_lines(&self) -> usize {
         let end = behind(self.place, self.piece.as_slice());
-        end.numbers.saturating_add(usize::from(end.has_number()))
+        end.filled.saturating_add(usize::from(end.is_filled()))
     }
 
     /// The address of the record in a line, where the last piece has the line's end, and no line in front of it moves the

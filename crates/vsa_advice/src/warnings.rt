@@ -1,8 +1,11 @@
 //! Warnings of what a report shows that is rarely meant.
 
+use crate::source::NotedSource;
+use crate::words::has_word;
 use report_watch::{Mcs51Seen, Msp430Seen, Seen, Watch};
 use std::alloc::Global;
 use std::io;
+use streams::Source;
 use vsa_words::{Reading, Target, reading_of};
 
 /// What looks at the lines of an answer to these words: at those of a report.
@@ -51,4 +54,23 @@ pub fn print_warnings(rt: &impl Eprint, watch: &Watch) -> io::Result<()> {
         Seen::Msp430(seen) => warn_of_msp430(rt, seen),
         Seen::Mcs51(seen) => warn_of_mcs51(rt, seen),
     }
+}
+
+/// Whether these words ask for assertions, and none stands behind the image text.
+pub fn lacks_assertions<S: Source + Drop>(words: &[String], source: &NotedSource<S>) -> bool {
+    has_word(words, "assert") && source.second_lines() == 0
+}
+
+/// Warns where no assertion was asked: any image that closes holds then.
+pub fn print_unasked<S: Source + Drop>(
+    rt: &impl Eprint,
+    words: &[String],
+    source: &NotedSource<S>,
+) -> io::Result<()> {
+    if lacks_assertions(words, source) {
+        eprintln!(rt;
+            "vsa: warning: no assertion stands behind the image text, and then any image holds whose report is closed. Is their file left out, as the last word, or empty?"
+        )?;
+    }
+    Ok(())
 }

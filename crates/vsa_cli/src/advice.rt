@@ -4,7 +4,8 @@ use std::alloc::Global;
 use std::io;
 use streams::{Sink, Source};
 use vsa_advice::{
-    Fault, Noted, NotedSource, image_fault, print_need, print_slip, print_warnings, text_fault,
+    Fault, Noted, NotedSource, image_fault, print_need, print_slip, print_unasked, print_warnings,
+    text_fault,
 };
 use vsa_top::Status;
 
@@ -72,6 +73,7 @@ pub fn print_advice<R: Eprint, S: Source + Drop, K: Sink + Drop>(
         Status::NeedChoice => return print_need(rt, alloc, words, sink.last(), source),
         Status::BadImage => return print_fault(rt, status, image_fault(sink.first(), source)),
         Status::BadCert => return print_fault(rt, status, text_fault(words, sink.first())),
+        Status::Done => print_unasked(rt, words, source)?,
         _ => {}
     }
     print_sentence(rt, status)?;
