@@ -97,7 +97,7 @@ open_is true e = absurd (cc)
 open_is false e = refl
 
 -- the closed reports of a chip's programs cover every run, whatever the texts of instructions
-abbrev CoverRuns : {B S A : Type 0} → (B → Type 0) → (B → Machine S) → (B → Analysis A) → Type 0
+abbrev pub CoverRuns : {B S A : Type 0} → (B → Type 0) → (B → Machine S) → (B → Analysis A) → Type 0
 CoverRuns {B} program machine analysis = (base : B) (text_of : ℕ → List ℕ → List ℕ) (journal : List Event) → program base
     → IsLegalJournal (analysis base) journal → IsFinished (replay (analysis base) journal)
     → are_closed (last_works (analysis base) journal) ≡ true
@@ -128,10 +128,10 @@ shows_of program analysis shows base text_of workers report journal is_program i
     (shows base text_of journal is_program is.is_analysis.legal is.is_analysis.finished left)
 
 -- what is known of the reports of both chips
-abbrev CoverMsp430 : Type 0
+abbrev pub CoverMsp430 : Type 0
 CoverMsp430 = CoverRuns IsMsp430Program (λ (setting : Msp430Setting). msp430_machine setting.device) msp430_analysis
 
-abbrev CoverMcs51 : Type 0
+abbrev pub CoverMcs51 : Type 0
 CoverMcs51 = CoverRuns IsMcs51Program (λ (setting : Mcs51Setting). mcs51_machine setting.image) mcs51_analysis
 
 abbrev ShowMsp430 : Type 0
@@ -177,7 +177,7 @@ is_msp430 ram limits image given = record { program = record { read = given.read
 pub is_mcs51 : (limits : Limits) (image : List (Option ℕ)) → IsGiven Mcs51 limits image → IsMcs51Program (mcs51_setting limits image)
 is_mcs51 limits image given = record { program = given.read; calls = given.calls }
 
-covers_image : CoverMsp430 → CoverMcs51
+pub covers_image : CoverMsp430 → CoverMcs51
     → (target : Target) (limits : Limits) (workers : ℕ) (image : List (Option ℕ)) (report : List ℕ) (journal : List Event)
     → IsGiven target limits image → IsAnalysedOn target limits workers image Done report journal → CoversRunsOf target image report
 covers_image msp430 mcs51 (Msp430 ram) limits workers image report journal given is =
@@ -199,7 +199,7 @@ shows_image msp430 mcs51 Mcs51 limits workers image report journal given is =
 -- THE REPORT IN FRONT
 
 -- what was written of an analysis begins with its report
-record HasReport (target : Target) (limits : Limits) (workers : ℕ) (cert : Bool) (image : List (Option ℕ)) (answered : Status) (text : List ℕ)
+pub record HasReport (target : Target) (limits : Limits) (workers : ℕ) (cert : Bool) (image : List (Option ℕ)) (answered : Status) (text : List ℕ)
     (journal : List Event) : Type 0 where
   pub report : List ℕ
   pub analysed : IsAnalysedOn target limits workers image answered report journal
@@ -212,7 +212,7 @@ behind_of : {A : Type 0} (analysis : Analysis A) (texts : StateTexts A) (cert : 
 behind_of analysis texts false journal report text is = ([], (λ e. refl), is ∙ sym (append-nil report))
 behind_of analysis texts true journal report text is = (is.0, (λ e. absurd (cc e)), is.2)
 
-has_report : (target : Target) (limits : Limits) (workers : ℕ) (cert : Bool) (image : List (Option ℕ)) (answered : Status) (text : List ℕ)
+pub has_report : (target : Target) (limits : Limits) (workers : ℕ) (cert : Bool) (image : List (Option ℕ)) (answered : Status) (text : List ℕ)
     (journal : List Event) → IsReportedOn target limits workers cert image answered text journal
     → HasReport target limits workers cert image answered text journal
 has_report (Msp430 ram) limits workers cert image answered text journal is =
@@ -236,7 +236,7 @@ analysed one task input second answered written journal text image other gives r
     (same_image one rules input text image other e denoted (gives_image rules input second other gives)) reply)
 
 -- an image that was read is given
-given_image : HaveRules → (task : Task) (text : List ℕ) (image : List (Option ℕ)) → IsRamRange (target_rules task.target)
+pub given_image : HaveRules → (task : Task) (text : List ℕ) (image : List (Option ℕ)) → IsRamRange (target_rules task.target)
     → EndsInMemory (target_rules task.target) → IsBounded (Analyse task)
     → Denotes (target_rules task.target) Blank (texts.lines_of text) image → IsGiven task.target task.limits image
 given_image rules task text image range end few denoted =

@@ -1,7 +1,7 @@
 -- The certificate that stands behind a report passes its check, which tells this report.
 use Rattle.std.proofs.Common.{◌≡◌, ◌++◌, ◌≤◌, ℕ, Bool, true, false, Option, Some, List, refl, sym, ap, subst, ◌∙◌, inl, inr, arith}
 use Rattle.std.specs.Prelude.{◌⊎◌, ◌↔◌, length}
-use Rattle.std.proofs.lemmas.List.{append_cancel_left}
+use Rattle.std.proofs.lemmas.List.{append-nil, append_cancel_left}
 use Rattle.analysis_limits.specs.declared.limits.Limits.{Limits}
 use Rattle.cert_text.specs.Writing.{IsCert}
 use Rattle.cert_verdict.specs.Verdict.{IsVerdict}
@@ -28,6 +28,7 @@ use Rattle.streams.specs.Stream.{appended}
 use Rattle.vsa_top.specs.Answer.{Answers, IsChecked, IsCheckedOn, IsReply, IsReported, IsReportedOn, IsVerdictOn, status_of_verdict}
 use Rattle.vsa_top.specs.Answer.IsChecked.{judged, lengthy}
 use Rattle.vsa_top.specs.Answer.IsReply.{of_image, of_bad, of_long}
+use Rattle.vsa_top.specs.Headline.{CoversRunsOf}
 use Rattle.vsa_top.specs.Input.{Gives}
 use Rattle.vsa_top.specs.Own.{IsOwn, TellsReport, WritesOwn}
 use Rattle.vsa_top.specs.Scripts.{second_limit}
@@ -39,7 +40,7 @@ use Rattle.vsa_words.specs.declared.reading.Reading.TheVariants.{Analyse, Check}
 use Rattle.vsa_words.specs.declared.reading.Target.{Target}
 use Rattle.vsa_words.specs.declared.reading.Target.TheVariants.{Msp430, Mcs51}
 use Rattle.vsa_words.specs.declared.reading.Task.{Task}
-use Rattle.vsa_top.proofs.HeadlineLemmas.{HaveOneImage, HaveRules, IsGiven, closed_is, gives_image, gives_reply, is_mcs51, is_msp430, same_image}
+use Rattle.vsa_top.proofs.HeadlineLemmas.{CoverMcs51, CoverMsp430, HaveOneImage, HaveRules, IsGiven, closed_is, covers_image, given_image, gives_image, gives_reply, has_report, is_mcs51, is_msp430, same_image}
 
 -- WHAT AN ANALYSIS WRITES
 
@@ -80,12 +81,24 @@ written_reply one task input written journal asked (of_image other second gives 
 written_reply one task input written journal asked (of_bad line fault bad is line_is none) text image e denoted = absurd (cc)
 written_reply one task input written journal asked (of_long long is line_is none) text image e denoted = absurd (cc)
 
-pub written_lem : HaveOneImage → (task : Task) (input before after : Option (List ℕ)) (journal : List Event) → task.cert ≡ true
+-- the report in front of a certificate covers every run
+own_covers : CoverMsp430 → CoverMcs51 → (target : Target) (limits : Limits) (image : List (Option ℕ)) (report certificate : List ℕ)
+    → IsGiven target limits image → IsOwn target limits image report certificate → CoversRunsOf target image report
+own_covers msp430 mcs51 target limits image report certificate given own =
+    let is = has_report target limits own.workers false image Done report own.journal own.reported in
+    let alone : report ≡ is.report = is.joined ∙ ap (λ behind. is.report ++ behind) (is.alone refl) ∙ append-nil is.report in
+    subst (CoversRunsOf target image) (sym alone)
+    (covers_image msp430 mcs51 target limits own.workers image is.report own.journal given is.analysed)
+
+pub written_lem : CoverMsp430 → CoverMcs51 → HaveRules → HaveOneImage
+    → (task : Task) (input before after : Option (List ℕ)) (journal : List Event)
+    → IsRamRange (target_rules task.target) → EndsInMemory (target_rules task.target) → IsBounded (Analyse task) → task.cert ≡ true
     → Answers (Analyse task) Done input before after journal → WritesOwn task input before after
-written_lem one task input before after journal asked answers text image e denoted =
+written_lem msp430 mcs51 rules one task input before after journal range end few asked answers text image e denoted =
     let given = gives_reply (Analyse task) Done input before after journal answers ((λ f. cc f), (λ f. cc f)) (λ f. cc f) in
     let (report, certificate, joined, own) = written_reply one task input given.text journal asked given.reply text image e denoted in
-    (report, certificate, given.held ∙ ap (appended before) joined, own)
+    let covers = own_covers msp430 mcs51 task.target task.limits image report certificate (given_image rules task text image range end few denoted) own in
+    (report, certificate, given.held ∙ ap (appended before) joined, own, covers)
 
 -- WHAT A CHECK TELLS
 

@@ -7,6 +7,7 @@ use Rattle.text_lines.specs.Lines as texts
 use Rattle.round_core.specs.declared.event.Event.{Event}
 use Rattle.streams.specs.Stream.{appended}
 use Rattle.vsa_top.specs.Answer.{IsReportedOn}
+use Rattle.vsa_top.specs.Headline.{CoversRunsOf}
 use Rattle.vsa_top.specs.declared.outcome.Status.{Status}
 use Rattle.vsa_top.specs.declared.outcome.Status.TheVariants.{Done}
 use Rattle.vsa_words.specs.declared.reading.Target.{Target}
@@ -22,13 +23,14 @@ pub record IsOwn (target : Target) (limits : Limits) (image : List (Option ℕ))
   pub reported : IsReportedOn target limits workers false image Done report journal
   pub certified : IsReportedOn target limits workers true image Done (report ++ certificate) journal
 
--- Where the input is told and denotes an image of the chip, the sink got a report and its own certificate behind it.
+-- Where the input is told and denotes an image of the chip, the sink got a report that covers every run of the chip with this
+-- image, and its own certificate behind it.
 abbrev pub WritesOwn : Task → (input before after : Option (List ℕ)) → Type 0
 WritesOwn task input before after =
     (text : List ℕ) (image : List (Option ℕ)) → input ≡ Some text
     → Denotes (target_rules task.target) Blank (texts.lines_of text) image
     → (report : List ℕ) × (certificate : List ℕ) × (after ≡ appended before (report ++ certificate))
-    × IsOwn task.target task.limits image report certificate
+    × IsOwn task.target task.limits image report certificate × CoversRunsOf task.target image report
 
 -- the answer is Done with this report
 abbrev pub TellsReport : Status → (before after : Option (List ℕ)) → (report : List ℕ) → Type 0

@@ -20,12 +20,14 @@ use ihex_read::{image_or_fault, images_keep_rules};
 use mcs51_flow::{Mcs51Chip, stacks_grow_by_bytes};
 use msp430_flow::{Msp430Chip, stacks_grow_by_words};
 use report_bytes::closed_books_are_told;
+use report_text::closed_reports_cover_runs;
 
-/// What an analysis writes with a certificate and Done is a report and its own certificate behind it. Where a report's own
+/// What an analysis writes with a certificate and Done is a report that covers every run, and its own certificate behind it. Where a report's own
 /// certificate is checked, and isn't longer than a second text may be, the answer is this report with Done, unless something
 /// fails or memory isn't there.
 pub(crate) fn own_certificates_pass()
     ensures written { (task : ATask) (input before after : Option (List ℕ)) (journal : List AnEvent)
+        → IsRamRange (rules_of (Analyse task)) → EndsInMemory (rules_of (Analyse task)) → IsBounded (Analyse task)
         → task.cert ≡ true → Answers (Analyse task) Done input before after journal
         → WritesOwn task input before after }
     ensures accepted { (task : ATask) (answered : AStatus) (input before after : Option (List ℕ))
@@ -40,6 +42,8 @@ pub(crate) fn own_certificates_pass()
     reports_hold();
     image_or_fault();
     images_keep_rules();
+    closed_reports_cover_runs::<Msp430Chip>();
+    closed_reports_cover_runs::<Mcs51Chip>();
     stacks_grow_by_words();
     stacks_grow_by_bytes();
     closed_books_are_told::<Msp430Chip>();

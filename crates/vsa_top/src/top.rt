@@ -126,7 +126,8 @@ pub fn vsa<R: Threads + Wait + Sync, S: Source, K: Sink, G: Gate + Sync>(
     ensures certified { (task : ATask) → Reads words.now (Check task) → result.status ≡ Status.Done
         → CertifiesOn task.target (S.left source.old) (K.held sink.old) (K.held sink.new) }
     // Where the words ask an analysis with a certificate, the input denotes an image and the status is Done, what was written is
-    // a report with its own certificate behind it: the report of a closed book, and the certificate of that book's table.
+    // a report with its own certificate behind it: the report of a closed book, of which the same holds as in the headline, and
+    // the certificate of that book's table.
     ensures own { (task : ATask) → Reads words.now (Analyse task) → task.cert ≡ true
         → result.status ≡ Status.Done
         → WritesOwn task (S.left source.old) (K.held sink.old) (K.held sink.new) }

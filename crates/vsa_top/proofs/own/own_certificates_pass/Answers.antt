@@ -3,7 +3,8 @@ use Rattle.vsa_top.proofs.OwnLemmas.{PassMcs51, PassMsp430, accepted_lem, writte
 use Rattle.vsa_top.proofs.own.own_certificates_pass.Goals as goal
 
 pub returns-clause-written : goal.returns-clause-written
-returns-clause-written c = written_lem c.image_or_fault.ensures.one_image
+returns-clause-written c =
+    written_lem c.closed_reports_cover_runs.ensures c.closed_reports_cover_runs-2.ensures c.images_keep_rules.ensures c.image_or_fault.ensures.one_image
 
 pub returns-clause-accepted : goal.returns-clause-accepted
 returns-clause-accepted c = λ task answered input before after journal text report certificate image range end few answers e gives own fits no_read no_write.

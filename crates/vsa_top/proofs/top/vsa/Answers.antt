@@ -33,7 +33,7 @@ pub returns-in-Ok-Some-clause-own : goal.returns-in-Ok-Some-clause-own
 returns-in-Ok-Some-clause-own g c = λ task reads asked told.
     let read = c.in-Ok-Some.ensures in
     let is = read_as c.in-Ok-Some.field-0-is read.alone read.range read.end read.bounded c.answer.ensures.answer (Analyse task) reads in
-    c.own_certificates_pass.ensures.written task _ _ _ _ asked (as_told told is.answer)
+    c.own_certificates_pass.ensures.written task _ _ _ _ is.range is.end is.bounded asked (as_told told is.answer)
 
 pub returns-in-Ok-Some-clause-open_alone : goal.returns-in-Ok-Some-clause-open_alone
 returns-in-Ok-Some-clause-open_alone g c = λ other reads told.
