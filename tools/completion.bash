@@ -44,7 +44,7 @@ _guessfir_vsa() {
             elif [ ${#places[@]} = 1 ]; then
                 COMPREPLY=($(compgen -W "$(sed -n '/^Chips/,/^$/s/^  \([a-z0-9]*\)  .*/\1/p' <<<"$usage")" -- "$word"))
             else
-                COMPREPLY=($(compgen -f -- "$word"))
+                mapfile -t COMPREPLY < <(compgen -f -- "$word")
             fi
             ;;
     esac
@@ -57,7 +57,7 @@ _guessfir_view() {
     elif [ "${COMP_WORDS[1]}" = dot ]; then
         COMPREPLY=($(compgen -W "calls" -- "$word"))
     else
-        COMPREPLY=($(compgen -f -- "$word"))
+        mapfile -t COMPREPLY < <(compgen -f -- "$word")
     fi
 }
 
