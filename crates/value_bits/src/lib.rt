@@ -39,8 +39,5 @@ pub mod w8;
 
 pub use all_flags::{AllFlags, FourFlags, FourKnown};
 pub use flags::Flag;
-pub use laws::{
-    bit_laws, bits_hold, decimals_hold, evens_stay, flags_agree, halves_hold, left_shifts_hold,
-    logic_holds, moves_hold,
-};
+pub use laws::bit_laws;
 pub use tri::{Lowest, Top, Tri, tri_and, tri_not, tri_or, tri_xor};

@@ -13,7 +13,7 @@ ghost use Rattle.value_bits.specs.Lefts as lefts;
 
 use crate::forming::with_bits;
 use crate::formulas::{decimal_add_set, exchange_set, left_set, logic_set, shift_set};
-use crate::laws::{bits_hold, decimals_hold, left_shifts_hold, logic_holds, moves_hold};
+use crate::laws::bit_laws;
 use crate::tri::{Logic, Lowest, Top, Tri};
 use value_set::Form;
 
@@ -25,7 +25,7 @@ pub fn from_bits(width: u32, bits: &[Tri]) -> Form
     ensures normal { IsNormal (2 ^ width) result }
     ensures holds { (v : ℕ) → Agrees bits.now v → Has (2 ^ width) result v }
 {
-    bits_hold();
+    bit_laws();
     with_bits(width, bits)
 }
 
@@ -40,7 +40,7 @@ pub fn logic(width: u32, logic: Logic, a: &Form, b: &Form) -> Form
         → Has (2 ^ width) result (logic_of logic x y) }
     ensures alone { (x y : ℕ) → a.now ≡ single x → b.now ≡ single y → result ≡ single (logic_of logic x y) }
 {
-    logic_holds();
+    bit_laws();
     logic_set(width, logic, a, b)
 }
 
@@ -55,7 +55,7 @@ pub fn shift_right(place: u32, a: &Form, top: Top) -> Form
     ensures alone { (x bit : ℕ) → a.now ≡ single x → IsOneTop top → IsTop place top x bit
         → result ≡ single (shifted_right place x bit) }
 {
-    moves_hold();
+    bit_laws();
     shift_set(place, a, top)
 }
 
@@ -70,7 +70,7 @@ pub fn shift_left(place: u32, a: &Form, lowest: Lowest) -> Form
     ensures alone { (x bit : ℕ) → a.now ≡ single x → IsOneLowest lowest → IsLowest place lowest x bit
         → result ≡ single (shifted_left place x bit) }
 {
-    left_shifts_hold();
+    bit_laws();
     left_set(place, a, lowest)
 }
 
@@ -84,7 +84,7 @@ pub fn exchange(half: u32, a: &Form) -> Form
         → Has (2 ^ (half + half)) result (exchanged (2 ^ half) x) }
     ensures alone { (x : ℕ) → a.now ≡ single x → result ≡ single (exchanged (2 ^ half) x) }
 {
-    moves_hold();
+    bit_laws();
     exchange_set(half, a)
 }
 
@@ -105,6 +105,6 @@ pub fn decimal_add(digits: u32, a: &Form, b: &Form, carry: Tri) -> Form
         → IsTrue (is_decimal digits x) → IsTrue (is_decimal digits y)
         → result ≡ single (decimal_sum digits x y bit) }
 {
-    decimals_hold();
+    bit_laws();
     decimal_add_set(digits, a, b, carry)
 }

@@ -17,7 +17,7 @@ use crate::flags::Flag;
 use crate::formulas::sign_extend_set;
 use crate::halves::{high_of_several, low_of_several, pair_of_several};
 use crate::knowing::known_bits;
-use crate::laws::{halves_hold, moves_hold};
+use crate::laws::bit_laws;
 use crate::tri::{Logic, Top, Tri};
 use crate::{all_flags, flags, order, results};
 use value_set::sets::alone;
@@ -113,7 +113,7 @@ pub fn sign_extend(a: &Vs16) -> Vs16
     ensures holds { (x : ℕ) → Has 65536 a.now x → Has 65536 result (sign_extended x) }
     ensures alone { (x : ℕ) → a.now ≡ single x → result ≡ single (sign_extended x) }
 {
-    moves_hold();
+    bit_laws();
     Vs16::from_form(sign_extend_set(&a.form()))
 }
 
@@ -124,7 +124,7 @@ pub fn low(a: &Vs16) -> Vs8
     ensures holds { (x : ℕ) → Has 65536 a.now x → Has 256 result (low_byte x) }
     ensures alone { (x : ℕ) → a.now ≡ single x → result ≡ single (low_byte x) }
 {
-    halves_hold();
+    bit_laws();
     match alone(&a.form()) {
         Some(word) => Vs8::one((word % 256) as u8),
         None => low_of_several(a),
@@ -138,7 +138,7 @@ pub fn high(a: &Vs16) -> Vs8
     ensures holds { (x : ℕ) → Has 65536 a.now x → Has 256 result (high_byte x) }
     ensures alone { (x : ℕ) → a.now ≡ single x → result ≡ single (high_byte x) }
 {
-    halves_hold();
+    bit_laws();
     match alone(&a.form()) {
         Some(word) => Vs8::one((word / 256) as u8),
         None => high_of_several(a),
@@ -152,7 +152,7 @@ pub fn pair(low: &Vs8, high: &Vs8) -> Vs16
     ensures holds { (x y : ℕ) → Has 256 low.now x → Has 256 high.now y → Has 65536 result (word_of x y) }
     ensures alone { (x y : ℕ) → low.now ≡ single x → high.now ≡ single y → result ≡ single (word_of x y) }
 {
-    halves_hold();
+    bit_laws();
     match (alone(&low.form()), alone(&high.form())) {
         (Some(x), Some(y)) => Vs16::one(x + y * 256),
         _ => pair_of_several(low, high),

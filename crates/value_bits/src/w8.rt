@@ -18,7 +18,7 @@ use crate::all_flags::{AllFlags, FourKnown};
 use crate::flags::Flag;
 use crate::formulas::decimal_adjust_set;
 use crate::knowing::known_bits;
-use crate::laws::decimals_hold;
+use crate::laws::bit_laws;
 use crate::tri::{Logic, Lowest, Top, Tri};
 use crate::{all_flags, flags, order, results};
 use value_set::Vs8;
@@ -183,6 +183,6 @@ pub fn decimal_adjust(a: &Vs8, carry: Tri, half: Tri) -> Vs8
     ensures alone { (x y z : ℕ) → a.now ≡ single x → carry ≡ known.tri y → y < 2 → half ≡ known.tri z → z < 2
         → result ≡ single (decimal_adjusted x y z) }
 {
-    decimals_hold();
+    bit_laws();
     Vs8::from_form(decimal_adjust_set(&a.form(), carry, half))
 }

@@ -29,11 +29,6 @@ pub use bytes::Vs8;
 pub use combining::Operation;
 pub use few::Few;
 pub use form::{Form, Progression};
-pub use laws::{
-    cuts_hold, gathers_hold, inclusion_is_tested, joins_include_both, made_of_one_remainder,
-    members_are_below, remainders_stay, results_hold, runs_are_exact, set_laws,
-    sets_are_their_members, sets_have_members, single_and_whole_sets, sums_hold,
-    widenings_include_both,
-};
+pub use laws::{members_are_below, set_laws, sets_have_members};
 pub use number::Number;
 pub use words::Vs16;

@@ -7,11 +7,11 @@ use Rattle.value_bits.proofs.results.shift_left.Goals as goal
 
 pub returns-clause-normal : goal.returns-clause-normal
 returns-clause-normal c =
-    subst (λ (s : Form). IsNormal (2 ^ (c.args.place + 1)) s) (sym c.left_set.ensures) (c.left_shifts_hold.ensures.normal c.args.place c.args.a.now c.args.lowest c.requires.normal)
+    subst (λ (s : Form). IsNormal (2 ^ (c.args.place + 1)) s) (sym c.left_set.ensures) (c.bit_laws.ensures.left_normal c.args.place c.args.a.now c.args.lowest c.requires.normal)
 
 pub returns-clause-holds : goal.returns-clause-holds
 returns-clause-holds c = λ x bit has is. subst (λ (s : Form). Has (2 ^ (c.args.place + 1)) s (shifted_left c.args.place x bit)) (sym c.left_set.ensures)
-    (c.left_shifts_hold.ensures.holds c.args.place x bit c.args.a.now c.args.lowest c.requires.normal has is)
+    (c.bit_laws.ensures.left c.args.place x bit c.args.a.now c.args.lowest c.requires.normal has is)
 
 pub returns-clause-alone : goal.returns-clause-alone
 returns-clause-alone c = λ x bit alone one is. c.left_set.ensures ∙ left_alone c.args.place c.args.lowest c.args.a.now x bit alone one is

@@ -11,11 +11,11 @@ returns-in-Some-clause-value c = c.one.ensures.value ∙ sym (high_one c.in-Some
 
 pub returns-in-None-clause-normal : goal.returns-in-None-clause-normal
 returns-in-None-clause-normal c =
-    subst (λ (s : Form). IsNormal 256 s) (sym c.high_of_several.ensures) (c.halves_hold.ensures.high_normal c.args.a.now c.form.ensures.normal)
+    subst (λ (s : Form). IsNormal 256 s) (sym c.high_of_several.ensures) (c.bit_laws.ensures.high_normal c.args.a.now c.form.ensures.normal)
 
 pub returns-in-None-clause-holds : goal.returns-in-None-clause-holds
 returns-in-None-clause-holds c = λ x has.
-    subst (λ (s : Form). Has 256 s (high_byte x)) (sym c.high_of_several.ensures) (c.halves_hold.ensures.high x c.args.a.now c.form.ensures.normal has)
+    subst (λ (s : Form). Has 256 s (high_byte x)) (sym c.high_of_several.ensures) (c.bit_laws.ensures.high x c.args.a.now c.form.ensures.normal has)
 
 pub returns-in-None-clause-alone : goal.returns-in-None-clause-alone
 returns-in-None-clause-alone c = λ x alone. c.high_of_several.ensures ∙ ap high_set alone ∙ high_one x
