@@ -7,6 +7,7 @@ mod collecting;
 mod combining;
 mod cutting;
 mod divisor;
+mod ends;
 mod few;
 mod form;
 mod gap;
