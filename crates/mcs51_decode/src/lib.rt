@@ -28,7 +28,7 @@
 mod decoding;
 mod encoding;
 mod instr;
-mod law;
+mod laws;
 mod refusal;
 mod rows;
 mod targets;
@@ -43,7 +43,7 @@ pub use instr::{
     Condition, Counter, External, Instr, Logic, Mask, Memory, Operation, Place, Pointer, Register,
     Source, Working,
 };
-pub use law::{
+pub use laws::{
     bytes_of_one_instruction, decoding_laws, one_instruction, one_of_three, one_row_an_opcode,
 };
 pub use refusal::NoInstr;
