@@ -32,8 +32,6 @@ mod laws;
 mod refusal;
 mod rows;
 mod targets;
-#[cfg(test)]
-mod tests;
 
 pub use decoding::{decode, from_bytes};
 pub use encoding::{encode, number_of_pointer, number_of_register};

@@ -20,8 +20,6 @@ mod merging;
 mod number;
 pub mod sets;
 mod summing;
-#[cfg(test)]
-mod tests;
 mod widening;
 mod widths;
 mod words;
