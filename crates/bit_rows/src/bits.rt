@@ -183,6 +183,28 @@ fn known_bits(rt: HostRuntime) {
     are_equal(&rt, &[(w8::from_bits(&w8::bits(&list)), list)]);
 }
 
+/// A counter that is 5 or 7, and words from FFF0h past the turn to 000Fh, beside single numbers.
+#[test]
+fn orders(rt: HostRuntime) {
+    let counter = list8(&rt, &[0x05, 0x07]);
+    let round = run16(&rt, 0xFFF0, 1, 0x20);
+    are_equal(
+        &rt,
+        &[
+            (w8::at_least(&counter, &Vs8::one(0x05)), Tri::One),
+            (w8::at_least(&counter, &Vs8::one(0x06)), Tri::Either),
+            (w8::at_least(&counter, &Vs8::one(0x08)), Tri::Zero),
+            (w16::at_least(&round, &Vs16::one(0x0000)), Tri::One),
+            (w16::at_least(&round, &Vs16::one(0xFFFF)), Tri::Either),
+            (w16::at_least(&Vs16::one(0xFFFF), &round), Tri::One),
+            (w8::equal(&counter, &Vs8::one(0x06)), Tri::Zero),
+            (w8::equal(&counter, &Vs8::one(0x07)), Tri::Either),
+            (w16::equal(&round, &Vs16::one(0x0010)), Tri::Zero),
+            (w16::equal(&Vs16::one(5), &Vs16::one(5)), Tri::One),
+        ],
+    );
+}
+
 /// Bytes below 100h are their own low bytes, and their own words with the high byte 0.
 #[test]
 fn bytes_as_words(rt: HostRuntime) {

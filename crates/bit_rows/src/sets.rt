@@ -207,6 +207,28 @@ fn forms(rt: HostRuntime) {
     are_equal(&rt, &[(run_of(&run), Some((0, 2, 0x8000)))]);
 }
 
+/// The least and the greatest member of a set.
+fn ends_of(set: &Vs16) -> (u16, u16) {
+    (set.least(), set.greatest())
+}
+
+/// One word, a list, a run, one past the turn, and all words.
+#[test]
+fn ends(rt: HostRuntime) {
+    let list = list16(&rt, &[0x0400, 0x0200, 0x0300]);
+    let (run, round) = (run16(&rt, 0x0200, 2, 0x20), run16(&rt, 0xFFF2, 3, 0x20));
+    are_equal(
+        &rt,
+        &[
+            (ends_of(&Vs16::one(0x1234)), (0x1234, 0x1234)),
+            (ends_of(&list), (0x0200, 0x0400)),
+            (ends_of(&run), (0x0200, 0x023E)),
+            (ends_of(&round), (0x0001, 0xFFFE)),
+            (ends_of(&Vs16::any()), (0x0000, 0xFFFF)),
+        ],
+    );
+}
+
 #[test]
 fn combines(rt: HostRuntime) {
     let first = First { modulus: 65536 };

@@ -3,19 +3,13 @@ use Rattle.std.proofs.Common.{◌≡◌, ℕ, ◌+◌, ◌*◌, ◌/◌, ◌%◌
 use Rattle.std.specs.Prelude.{◌⊎◌, ◌==◌, ◌&&◌}
 use Rattle.std.proofs.lemmas.Bool.{cases_Bool, eqb-true, eq-eqb, ne_eqb, and_parts}
 use Rattle.entry_value.specs.Cells.{number_at, written}
-use Rattle.plain_lemmas.specs.Small.{byte_alone}
+use Rattle.plain_lemmas.specs.Small.{byte_alone, high_of, low_of}
 
 abbrev pub IsSize : ℕ → Type 0
 IsSize size = (size ≡ 1) ⊎ (size ≡ 2)
 
 abbrev pub AreBytes : (ℕ → ℕ) → Type 0
 AreBytes ram = (at : ℕ) → ram at < 256
-
-low_of : (x y : ℕ) → x < 256 → (x + 256 * y) % 256 ≡ x
-low_of x y h = omega arith
-
-high_of : (x y : ℕ) → x < 256 → (x + 256 * y) / 256 ≡ y
-high_of x y h = omega arith
 
 pub low_part : (ram : ℕ → ℕ) → AreBytes ram → (place size : ℕ) → IsSize size → number_at ram place size % 256 ≡ ram place
 low_part ram bytes place size (inl one) = subst (λ (s : ℕ). number_at ram place s % 256 ≡ ram place) (sym one) (byte_alone (ram place) (bytes place))

@@ -19,7 +19,7 @@
 
 mod fault;
 mod feeding;
-mod law;
+mod laws;
 mod loading;
 mod placing;
 mod record;
@@ -28,6 +28,6 @@ mod stage;
 pub use fault::{HexError, HexFault};
 pub use feeding::{MOST_BYTES, Reader};
 pub use image::{Image, Rules, Tail};
-pub use law::{
+pub use laws::{
     ended_texts_stay, image_or_fault, images_have_bytes, images_keep_rules, whole_faults_stay,
 };

@@ -1,5 +1,5 @@
 -- What holds of what goes on behind a handler.
-use Rattle.std.proofs.Common.{◌≡◌, ℕ, ◌+◌, ◌-◌, ◌*◌, ◌/◌, ◌%◌, ◌<◌, ◌≤◌, true, Option, None, Some, List, [], ◌∷◌, map, refl, sym, ◌∙◌, ap, subst, inl, inr, arith, bit_and, bit_or}
+use Rattle.std.proofs.Common.{◌≡◌, ℕ, ◌+◌, ◌-◌, ◌*◌, ◌%◌, ◌<◌, ◌≤◌, true, Option, None, Some, List, [], ◌∷◌, map, refl, sym, ◌∙◌, ap, subst, inl, inr, arith, bit_and, bit_or}
 use Rattle.std.specs.Prelude.{◌⊎◌, ◌==◌, not, Contains}
 use Rattle.std.specs.List.{filter}
 use Rattle.std.proofs.lemmas.Bool.{cases_Bool, cond_both, and_parts, eqb-false, eqb-true, not-true}
@@ -14,7 +14,7 @@ use Rattle.irq_frames.specs.Resuming.{is_unmasked, masked_by, resumed_by, resume
 use Rattle.irq_frames.specs.MaskFacts.{unmasked_is}
 use Rattle.entry_value.specs.Laws.{CellLaws, WordLaws}
 use Rattle.entry_value.specs.CellLists.{Each, StandsAt, cell_of, each_both, each_cell, each_filter, each_from, each_in, each_map, each_then, each_written, filtered_form, some_size}
-use Rattle.plain_lemmas.specs.Small.{byte_alone, word_alone}
+use Rattle.plain_lemmas.specs.Small.{byte_alone, high_of, low_of, word_alone}
 
 -- WORDS
 
@@ -89,12 +89,6 @@ record IsWritten (cell : Cell) : Type 0 where
   fits : FitsCell cell.size cell.word
 
 -- a RAM stays behind a write of what stands in it
-low_of : (x y : ℕ) → x < 256 → (x + 256 * y) % 256 ≡ x
-low_of x y h = omega arith
-
-high_of : (x y : ℕ) → x < 256 → (x + 256 * y) / 256 ≡ y
-high_of x y h = omega arith
-
 rewritten_byte : (ram : ℕ → ℕ) (at address : ℕ) → ((b : ℕ) → ram b < 256) → written ram at 1 (ram at) address ≡ ram address
 unfolding written
 rewritten_byte ram at address bytes = elim (cases_Bool (address == at)) [

@@ -19,11 +19,11 @@
 #![tactic(auto)]
 
 mod finding;
-mod law;
+mod laws;
 mod place;
 mod state;
 
 pub use finding::{bit_address, direct_address, sfr_at};
-pub use law::{a_reset_exists, formats_lead, step_laws, steps_are_taken, the_table_decides};
+pub use laws::{a_reset_exists, formats_lead, step_laws, steps_are_taken, the_table_decides};
 pub use place::{Access, Address, Sfr};
 pub use state::ChipState;

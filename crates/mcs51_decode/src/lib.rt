@@ -28,12 +28,10 @@
 mod decoding;
 mod encoding;
 mod instr;
-mod law;
+mod laws;
 mod refusal;
 mod rows;
 mod targets;
-#[cfg(test)]
-mod tests;
 
 pub use decoding::{decode, from_bytes};
 pub use encoding::{encode, number_of_pointer, number_of_register};
@@ -43,7 +41,7 @@ pub use instr::{
     Condition, Counter, External, Instr, Logic, Mask, Memory, Operation, Place, Pointer, Register,
     Source, Working,
 };
-pub use law::{
+pub use laws::{
     bytes_of_one_instruction, decoding_laws, one_instruction, one_of_three, one_row_an_opcode,
 };
 pub use refusal::NoInstr;

@@ -32,8 +32,6 @@ mod perform;
 mod registers;
 mod stack;
 mod stepped;
-#[cfg(test)]
-mod tests;
 
 pub use choosing::Choices;
 pub use form::has_form;

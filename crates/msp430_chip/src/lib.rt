@@ -15,13 +15,13 @@
 #![tactic(auto)]
 
 mod device;
-mod law;
+mod laws;
 mod place;
 mod ram;
 mod state;
 
 pub use device::Device;
-pub use law::{a_reset_exists, place_laws, step_laws, steps_are_taken, the_table_decides};
+pub use laws::{a_reset_exists, place_laws, step_laws, steps_are_taken, the_table_decides};
 pub use place::{Flags, Place};
 pub use ram::Ram;
 pub use state::{ChipState, Wild};

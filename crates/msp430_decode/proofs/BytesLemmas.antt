@@ -3,6 +3,7 @@ use Rattle.std.proofs.Common.{◌≡◌, ℕ, ◌+◌, ◌*◌, ◌/◌, ◌%◌
 use Rattle.std.proofs.lemmas.Bool.Decides.{nat_tests}
 use Rattle.std.specs.List.{flat_map}
 use Rattle.plain_lemmas.specs.Cases.{told}
+use Rattle.plain_lemmas.specs.Small.{high_of, low_of}
 use Rattle.msp430_decode.specs.declared.instr.Source.{Source}
 use Rattle.msp430_decode.specs.declared.instr.Source.TheVariants as source
 use Rattle.msp430_decode.specs.declared.instr.Destination.{Destination}
@@ -101,12 +102,6 @@ row_of_words len w x y k i hw hx hy e n =
     let m = subst (IsMade w x y) o.same (instr_made w x y hw hx hy o.allowed) in
     let l = o.length_is in
     made_row w x y k i m (omega arith)
-
-low_of : (a b : ℕ) → a < 256 → (a + 256 * b) % 256 ≡ a
-low_of a b h = omega arith
-
-high_of : (a b : ℕ) → a < 256 → (a + 256 * b) / 256 ≡ b
-high_of a b h = omega arith
 
 pub found_row : (bytes : List ℕ) (i : Instr) → All (λ byte. byte < 256) bytes → instr_of_bytes bytes ≡ Some i → Row bytes i
 unfolding instr_of_bytes

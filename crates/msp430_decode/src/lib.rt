@@ -28,7 +28,7 @@ mod decoding;
 mod encoding;
 mod fields;
 mod instr;
-mod law;
+mod laws;
 mod operands;
 mod refusal;
 
@@ -38,7 +38,7 @@ pub use image::Image;
 pub use instr::{
     Condition, Constant, Destination, Instr, Operation, Register, SingleOperation, Source, Width,
 };
-pub use law::{
+pub use laws::{
     bytes_of_one_instruction, decoding_laws, excluded_words, one_instruction, one_of_three,
 };
 pub use refusal::NoInstr;

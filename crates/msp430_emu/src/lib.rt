@@ -35,8 +35,6 @@ mod single;
 mod state;
 mod step;
 mod stepped;
-#[cfg(test)]
-mod tests;
 
 pub use choosing::Choices;
 pub use msp430_chip::Wild;

@@ -1,11 +1,12 @@
 -- Membership in a list, element by element, and in what is made of each.
-use Rattle.std.proofs.Common.{◌≡◌, ℕ, ◌+◌, ◌<◌, Bool, true, false, List, [], ◌∷◌, ap, sym, ◌∙◌, subst, inl, inr, arith}
+use Rattle.std.proofs.Common.{◌≡◌, ℕ, ◌+◌, ◌<◌, Bool, true, false, List, [], ◌∷◌, ◌++◌, cond, refl, ap, sym, ◌∙◌, subst, inl, inr, arith}
 use Rattle.std.specs.Prelude.{◌⊎◌, Contains, map}
 use Rattle.std.specs.List.{filter, flat_map, range_with_len}
 use Rattle.std.specs.Map.{values_of}
 use Rattle.std.proofs.lemmas.Bool.{cases_Bool, cond-true, cond-false}
 use Rattle.std.proofs.lemmas.List.Elements.{Contains-append_left, Contains-append_right, Contains-push, Contains-push_cases, Contains-append_cases}
-use Rattle.std.proofs.lemmas.List.FromFn.{length-range_with_len, get_or-range_with_len}
+use Rattle.std.proofs.lemmas.List.{append-nil, map-id}
+use Rattle.std.proofs.lemmas.List.FromFn.{filter_of_map_range_with_len_more, get_or-range_with_len, length-range_with_len, map-range_with_len_more}
 
 pub in_none : {X : Type 0} (x : X) → Contains [] x → ⊥
 in_none x h = absurd (omega (arith, h.1))
@@ -103,3 +104,20 @@ in_range count x h =
     let inside : h.0 < count = rw (length-range_with_len 0 count) at h.1 in
     let is : x ≡ 0 + h.0 = sym h.2 ∙ get_or-range_with_len 0 count h.0 x inside in
     omega (arith, is, inside)
+
+-- one number more
+
+pub range_more : (n : ℕ) → range_with_len 0 (n + 1) ≡ range_with_len 0 n ++ n ∷ []
+range_more n = simp map-id at (map-range_with_len_more (λ x. x) 0 n n (omega arith))
+
+pub range_filtered : (test : ℕ → Bool) (n : ℕ)
+    → filter test (range_with_len 0 (n + 1)) ≡ filter test (range_with_len 0 n) ++ cond (test n) (n ∷ []) []
+range_filtered test n = simp map-id at (filter_of_map_range_with_len_more test (λ x. x) 0 n n (omega arith))
+
+pub range_taken : (test : ℕ → Bool) (n : ℕ) → true ≡ test n
+    → filter test (range_with_len 0 (n + 1)) ≡ filter test (range_with_len 0 n) ++ n ∷ []
+range_taken test n passes = rw (range_filtered test n, ← passes) refl
+
+pub range_left : (test : ℕ → Bool) (n : ℕ) → false ≡ test n
+    → filter test (range_with_len 0 (n + 1)) ≡ filter test (range_with_len 0 n)
+range_left test n fails = rw (range_filtered test n, ← fails) (append-nil (filter test (range_with_len 0 n)))

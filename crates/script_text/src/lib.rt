@@ -15,9 +15,9 @@
 
 mod fault;
 mod feeding;
-mod law;
+mod laws;
 mod line;
 
 pub use fault::ScriptError;
 pub use feeding::{MOST_BYTES, Reader};
-pub use law::refusals_stay;
+pub use laws::refusals_stay;

@@ -81,6 +81,16 @@ pub fn members(all: &[Vs8]) -> Sum {
     sum
 }
 
+/// The least and the greatest member of each set.
+pub fn ends(all: &[Vs8]) -> Sum {
+    let mut sum = Sum::new();
+    for set in all {
+        sum.add(u32::from(set.least()));
+        sum.add(u32::from(set.greatest()));
+    }
+    sum
+}
+
 /// All numbers, each number, and each run from 9Ch on, also those that are none.
 pub fn runs() -> Sum {
     let mut sum = Sum::new();

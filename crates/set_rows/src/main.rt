@@ -10,7 +10,7 @@ mod samples;
 mod sums;
 
 use crate::bits::{adjusted, bits, moved, word_results};
-use crate::calls::{Call, gathered, members, over_pairs, runs};
+use crate::calls::{Call, ends, gathered, members, over_pairs, runs};
 use crate::samples::some_samples;
 use crate::sums::Sum;
 use std::io;
@@ -62,6 +62,7 @@ fn print_answers(rt: &HostRuntime, all: &[Vs8]) -> io::Result<()> {
             ("members", members(all)),
             ("run", runs()),
             ("gather", gathered),
+            ("ends", ends(all)),
         ],
     )?;
     print_pairs(rt, all)?;

@@ -15,7 +15,7 @@ pub mod Evens
 pub mod Combinations
 pub mod Singly
 pub mod LowPairs
-pub mod EndsOfSets
+pub mod Orders
 pub mod Sharing
 pub mod OneWalk
 pub mod WholeBytes

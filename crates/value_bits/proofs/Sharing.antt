@@ -14,7 +14,12 @@ use Rattle.value_bits.specs.Flags.{agreed}
 use Rattle.value_bits.specs.Order.{Share}
 use Rattle.value_bits.proofs.Choosing.{single_has}
 use Rattle.value_bits.proofs.Combinations.{agreed_clear, agreed_set}
-use Rattle.value_bits.proofs.EndsOfSets.{ascends_from, agreed_mixed, few_too, zero_normal}
+use Rattle.value_bits.proofs.Orders.{agreed_mixed, few_too, zero_normal}
+
+ascends_from : (low m v : ℕ) (xs : List ℕ) → Ascends low m xs → IsIn v xs → low ≤ v
+ascends_from low m v [] a h = absurd h
+ascends_from low m v (x ∷ xs) a (inl e) = omega (arith, a.0, e)
+ascends_from low m v (x ∷ xs) a (inr h) = let rest = ascends_from (x + 1) m v xs a.2 h in omega (arith, a.0, rest)
 
 -- ---- the walk
 

@@ -31,8 +31,6 @@ mod making;
 mod operations;
 mod order;
 mod results;
-#[cfg(test)]
-mod tests;
 mod tri;
 pub mod w16;
 pub mod w8;

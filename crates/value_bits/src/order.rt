@@ -1,23 +1,16 @@
 //! Which numbers are at least others, and which are equal, over the members of two sets.
 
-ghost use Rattle.std.specs.Prelude.{◌≡◌, ℕ, ◌+◌, ◌-◌, ◌*◌, ◌<◌, ◌≤◌, length, slice_index_or, nat_le, ◌==◌, ◌↔◌, IsTrue};
-ghost use Rattle.value_set.specs.Form.{Ascends, Has, IsNormal, IsNormalRun};
+ghost use Rattle.std.specs.Prelude.{◌≡◌, ℕ, ◌*◌, ◌≤◌, nat_le, ◌==◌, ◌↔◌, IsTrue};
+ghost use Rattle.value_set.specs.Form.{Ascends, Has, IsNormal};
 ghost use Rattle.value_set.specs.Summing.{count_of, single};
 ghost use Rattle.value_bits.specs.Flags as flags;
 ghost use Rattle.value_bits.specs.Flags.{IsFlag};
-ghost use Rattle.value_bits.specs.Order.{IsEnds, Share};
+ghost use Rattle.value_bits.specs.Order.{Share};
 
 use crate::flags::{Flag, agreed};
 use crate::tri::Tri;
-use value_set::sets::count;
-use value_set::{Form, Progression};
-
-/// The least and the greatest of some numbers.
-#[derive(Clone, Copy)]
-pub struct Bounds {
-    pub least: u16,
-    pub greatest: u16,
-}
+use value_set::Form;
+use value_set::sets::{count, greatest, least};
 
 /// What is known of whether a number of a set is at least one of another: known where at most 256 combinations agree.
 pub fn at_least(modulus: u32, first: &Form, second: &Form) -> Tri
@@ -41,59 +34,12 @@ fn at_least_few(modulus: u32, first: &Form, second: &Form) -> Tri
     requires few { count_of modulus first.now * count_of modulus second.now ≤ 256 }
     ensures { result ≡ flags.agreed modulus (λ x y z. nat_le y x) first.now second.now (single 0) }
 {
-    let firsts = ends(modulus, first);
-    let seconds = ends(modulus, second);
-    if seconds.greatest <= firsts.least {
+    if greatest(modulus, second) <= least(modulus, first) {
         Tri::One
-    } else if firsts.greatest < seconds.least {
+    } else if greatest(modulus, first) < least(modulus, second) {
         Tri::Zero
     } else {
         Tri::Either
-    }
-}
-
-/// The least and the greatest member of a set.
-fn ends(modulus: u32, set: &Form) -> Bounds
-    requires small { modulus ≤ 65536 }
-    requires normal { IsNormal modulus set.now }
-    ensures { IsEnds modulus set.now result.least result.greatest }
-{
-    match set {
-        Form::Values(values) => ends_of_list(values.as_slice()),
-        Form::Run(run) => ends_of_run(modulus, run),
-    }
-}
-
-fn ends_of_list(values: &[u16]) -> Bounds
-    requires { 1 ≤ length values.now }
-    ensures least { (d : ℕ) → result.least ≡ slice_index_or values.now 0 d }
-    ensures greatest { (d : ℕ) → result.greatest ≡ slice_index_or values.now (length values.now - 1) d }
-{
-    Bounds {
-        least: values[0],
-        greatest: values[values.len() - 1],
-    }
-}
-
-/// A run that goes round has its greatest number in front of the turn, and its least one behind it.
-fn ends_of_run(modulus: u32, run: &Progression) -> Bounds
-    requires small { modulus ≤ 65536 }
-    requires normal { IsNormalRun modulus run.now.base run.now.stride run.now.count }
-    ensures { IsEnds modulus (Form.Run run.now) result.least result.greatest }
-{
-    let base = run.base as u32;
-    let stride = run.stride as u32;
-    let last = base + (run.count - 1) * stride;
-    if last < modulus {
-        return Bounds {
-            least: run.base,
-            greatest: last as u16,
-        };
-    }
-    let greatest = base + (modulus - 1 - base) / stride * stride;
-    Bounds {
-        least: (greatest + stride - modulus) as u16,
-        greatest: greatest as u16,
     }
 }
 

@@ -22,3 +22,4 @@ pub mod Bounds
 pub mod MemberTests
 pub mod BytesAsWords
 pub mod Wholes
+pub mod EndsOfSets

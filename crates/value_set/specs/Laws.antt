@@ -4,6 +4,7 @@ use Rattle.std.specs.List.{Contains, list_any}
 use Rattle.value_set.specs.declared.form.Form.{Form}
 use Rattle.value_set.specs.declared.form.Form.TheVariants.{Values}
 use Rattle.value_set.specs.Cutting.{cut}
+use Rattle.value_set.specs.Ends as ends
 use Rattle.value_set.specs.Form.{Fits, Has, Includes, IsNormal, above, gather, make, members, put, steps}
 use Rattle.value_set.specs.Joining.{is_in, is_within, join}
 use Rattle.value_set.specs.Operations.{HasResultsBelow}
@@ -31,6 +32,11 @@ pub record SetLaws : Type 0 where
   pub member : (m v : ℕ) (set : Form) → Has m set v → is_in m set v ≡ true
   pub asked : (xs : List ℕ) (v : ℕ) (answer : Bool) → IsTrue answer ↔ Contains xs v → answer ≡ list_any (λ x. x == v) xs
   pub listed : (m k d : ℕ) (xs : List ℕ) → IsNormal m (Values xs) → k < length xs → get_or xs k d < m
+  -- the least and the greatest member
+  pub least_has : (m : ℕ) (set : Form) → IsNormal m set → Has m set (ends.least m set)
+  pub least : (m v : ℕ) (set : Form) → IsNormal m set → Has m set v → ends.least m set ≤ v
+  pub greatest_has : (m : ℕ) (set : Form) → IsNormal m set → Has m set (ends.greatest m set)
+  pub greatest : (m v : ℕ) (set : Form) → IsNormal m set → Has m set v → v ≤ ends.greatest m set
   -- one number, and all numbers
   pub single : (m v : ℕ) → v < m → IsNormal m (sums.single v) × Has m (sums.single v) v
   pub only : (m n v : ℕ) → Has m (sums.single n) v → n ≡ v

@@ -10,6 +10,7 @@ pub mod Merging
 pub mod Operations
 pub mod Remainders
 pub mod Widening
+pub mod Ends
 pub mod Cutting
 pub mod Summing
 pub mod Widths

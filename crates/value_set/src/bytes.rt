@@ -122,6 +122,24 @@ impl Vs8 {
         sets::nth(MODULUS, &self.form, place) as u8
     }
 
+    /// The least member.
+    pub fn least(&self) -> u8
+        ensures value { result ≡ calls.least 256 self.now }
+        ensures member { Has 256 self.now result }
+        ensures first { (v : ℕ) → Has 256 self.now v → result ≤ v }
+    {
+        sets::least(MODULUS, &self.form) as u8
+    }
+
+    /// The greatest member.
+    pub fn greatest(&self) -> u8
+        ensures value { result ≡ calls.greatest 256 self.now }
+        ensures member { Has 256 self.now result }
+        ensures last { (v : ℕ) → Has 256 self.now v → v ≤ result }
+    {
+        sets::greatest(MODULUS, &self.form) as u8
+    }
+
     /// Whether each member is one of the other set.
     pub fn within(&self, other: &Vs8) -> bool
         ensures value { result ≡ calls.is_within 256 self.now other.now }

@@ -7,6 +7,7 @@ mod collecting;
 mod combining;
 mod cutting;
 mod divisor;
+mod ends;
 mod few;
 mod form;
 mod gap;
@@ -19,8 +20,6 @@ mod merging;
 mod number;
 pub mod sets;
 mod summing;
-#[cfg(test)]
-mod tests;
 mod widening;
 mod widths;
 mod words;

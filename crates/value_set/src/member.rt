@@ -4,7 +4,7 @@ ghost use Rattle.std.specs.Prelude.{◌≡◌, ◌+◌, ◌-◌, ◌*◌, ◌/�
 ghost use Rattle.value_set.specs.Form.{Has, Includes, IsNormal, IsNormalRun, members};
 ghost use Rattle.value_set.specs.Summing.{whole};
 
-use crate::circle::{above, divides, reach};
+use crate::circle::{above, divides, last_before_turn, reach};
 use crate::form::{Form, Progression, same};
 use crate::merging::list_within;
 
@@ -146,14 +146,4 @@ fn run_within(modulus: u32, smaller: &Progression, larger: &Progression) -> bool
         return false;
     }
     last_before_turn(modulus, offset, smaller.stride as u32) <= reach(larger)
-}
-
-/// The last number in front of the turn, from an offset in steps of a stride.
-fn last_before_turn(modulus: u32, offset: u32, stride: u32) -> u32
-    requires small { modulus ≤ 65536 }
-    requires below { offset < modulus }
-    requires strides { 0 < stride }
-    ensures { result ≡ offset + (modulus - 1 - offset) / stride * stride }
-{
-    offset + (modulus - 1 - offset) / stride * stride
 }

@@ -13,7 +13,7 @@ pub use crate::member::nth;
 use crate::number::Number;
 pub use crate::summing::single;
 use crate::summing::{Sign, signed_sum};
-use crate::{collecting, combining, cutting, joining, member, summing, widening};
+use crate::{collecting, combining, cutting, ends, joining, member, summing, widening};
 
 /// The set of all numbers below the modulus.
 pub fn any(modulus: u32) -> Form
@@ -49,6 +49,30 @@ pub fn count(modulus: u32, set: &Form) -> u32
     ensures most { result ≤ modulus }
 {
     member::count(modulus, set)
+}
+
+/// The least member of a set.
+pub fn least(modulus: u32, set: &Form) -> u16
+    requires small { modulus ≤ 65536 }
+    requires normal { IsNormal modulus set.now }
+    ensures value { result ≡ calls.least modulus set.now }
+    ensures member { Has modulus set.now result }
+    ensures first { (v : ℕ) → Has modulus set.now v → result ≤ v }
+    ensures below { result < modulus }
+{
+    ends::least(modulus, set)
+}
+
+/// The greatest member of a set.
+pub fn greatest(modulus: u32, set: &Form) -> u16
+    requires small { modulus ≤ 65536 }
+    requires normal { IsNormal modulus set.now }
+    ensures value { result ≡ calls.greatest modulus set.now }
+    ensures member { Has modulus set.now result }
+    ensures last { (v : ℕ) → Has modulus set.now v → v ≤ result }
+    ensures below { result < modulus }
+{
+    ends::greatest(modulus, set)
 }
 
 /// A set that has the members of both.

@@ -4,7 +4,7 @@ ghost use Rattle.std.specs.Prelude.{◌≡◌, ℕ, ◌+◌, ◌-◌, ◌*◌, �
 ghost use Rattle.value_set.specs.Form.{IsNormal, IsSpan};
 ghost use Rattle.value_set.specs.Widening as widens;
 
-use crate::circle::reach;
+use crate::circle::last_of;
 use crate::form::{Form, Progression, same};
 use crate::gathering::{make, steps_to};
 use crate::joining::{class, span};
@@ -57,15 +57,6 @@ fn mark_above<N: Number>(marks: &[N], bound: u32) -> Option<u32>
         best = nearer_above(bound, best, mark.number() as u32);
     }
     best
-}
-
-/// The last number of a run, counted on where it goes round.
-fn last_of(run: &Progression) -> u32
-    requires some { 1 ≤ run.now.count }
-    requires small { (run.now.count - 1) * run.now.stride < 65536 }
-    ensures { result ≡ widens.last_of run.now }
-{
-    run.base as u32 + reach(run)
 }
 
 /// Down in steps to the least number that isn't below a mark.

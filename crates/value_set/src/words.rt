@@ -149,6 +149,24 @@ impl Vs16 {
         sets::nth(MODULUS, &self.form, place)
     }
 
+    /// The least member.
+    pub fn least(&self) -> u16
+        ensures value { result ≡ calls.least 65536 self.now }
+        ensures member { Has 65536 self.now result }
+        ensures first { (v : ℕ) → Has 65536 self.now v → result ≤ v }
+    {
+        sets::least(MODULUS, &self.form)
+    }
+
+    /// The greatest member.
+    pub fn greatest(&self) -> u16
+        ensures value { result ≡ calls.greatest 65536 self.now }
+        ensures member { Has 65536 self.now result }
+        ensures last { (v : ℕ) → Has 65536 self.now v → v ≤ result }
+    {
+        sets::greatest(MODULUS, &self.form)
+    }
+
     /// Whether each member is one of the other set.
     pub fn within(&self, other: &Vs16) -> bool
         ensures value { result ≡ calls.is_within 65536 self.now other.now }

@@ -1,23 +1,19 @@
-use Rattle.std.proofs.Common.{◌≡◌, ℕ, ◌+◌, Bool, cond, List, [], ◌∷◌, ◌++◌, sym, ap, ◌∙◌, inl, inr, arith}
+use Rattle.std.proofs.Common.{◌≡◌, ℕ, ◌+◌, Bool, List, [], ◌++◌, sym, ap, ◌∙◌, inl, inr, arith}
 use Rattle.std.specs.Prelude.{if◌then◌else◌}
 use Rattle.std.specs.List.{filter, flat_map, range_with_len}
 use Rattle.std.proofs.lemmas.Bool.{cases_Bool}
 use Rattle.std.proofs.lemmas.Grind.{common_steps, flat_map-append}
-use Rattle.std.proofs.lemmas.List.{map-id}
-use Rattle.std.proofs.lemmas.List.FromFn.{filter_of_map_range_with_len_more}
+use Rattle.plain_lemmas.specs.Members.{range_filtered}
 use Rattle.msp430_chip.specs.Interrupts.{may_come}
 use Rattle.msp430_entry.specs.declared.coming.Coming.{Coming}
 use Rattle.msp430_entry.specs.Entry.{comings_at}
 use Rattle.msp430_entry.proofs.coming.each.Goals as goal
 
-one_more : (p : ℕ → Bool) (n : ℕ) → filter p (range_with_len 0 (n + 1)) ≡ filter p (range_with_len 0 n) ++ cond (p n) (n ∷ []) []
-one_more p n = simp map-id at (filter_of_map_range_with_len_more p (λ x. x) 0 n n (omega arith))
-
 one_added : (f : ℕ → List Coming) (p : ℕ → Bool) (n : ℕ)
     → flat_map f (filter p (range_with_len 0 (n + 1))) ≡ flat_map f (filter p (range_with_len 0 n)) ++ (if p n then f n else [])
 one_added f p n = elim (cases_Bool (p n)) [
-  | inl here ↦ rw (one_more p n, here) (grind (arith, common_steps, flat_map-append))
-  | inr other ↦ rw (one_more p n, other) (grind (arith, common_steps))
+  | inl here ↦ rw (range_filtered p n, here) (grind (arith, common_steps, flat_map-append))
+  | inr other ↦ rw (range_filtered p n, other) (grind (arith, common_steps))
 ]
 
 pub loop-vector-preserved : goal.loop-vector-preserved

@@ -4,7 +4,7 @@ use Rattle.value_bits.specs.declared.tri.Tri.{Tri}
 use Rattle.value_bits.specs.Flags.{IsFlag, agreed}
 use Rattle.value_bits.proofs.Choosing.{single_has}
 use Rattle.value_bits.proofs.Combinations.{agreed-many, agreed_is}
-use Rattle.value_bits.proofs.EndsOfSets.{is_at_least}
+use Rattle.value_bits.proofs.Orders.{is_at_least}
 use Rattle.value_bits.proofs.order.at_least.Goals as goal
 
 pub returns-then-count-gt256-clause-value : goal.returns-then-count-gt256-clause-value

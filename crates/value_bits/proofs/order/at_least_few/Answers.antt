@@ -1,17 +1,17 @@
-use Rattle.value_bits.proofs.EndsOfSets.{order_set, order_clear, order_open}
+use Rattle.value_bits.proofs.Orders.{order_set, order_clear, order_open}
 use Rattle.value_bits.proofs.order.at_least_few.Goals as goal
 
-pub returns-then-seconds-firsts : goal.returns-then-seconds-firsts
-returns-then-seconds-firsts c = order_set c.args.modulus c.args.first.now c.args.second.now
-    c.ends-firsts.result.least c.ends-firsts.result.greatest c.ends-seconds.result.least c.ends-seconds.result.greatest
-    c.requires.few c.ends-firsts.ensures c.ends-seconds.ensures c.if-seconds-firsts.true
+pub returns-then-greatest-least : goal.returns-then-greatest-least
+returns-then-greatest-least c = order_set c.args.modulus c.args.first.now c.args.second.now c.least.result c.greatest.result c.requires.few
+    c.least.ensures.first c.greatest.ensures.last c.if-greatest-least.true
 
-pub returns-then-firsts-seconds : goal.returns-then-firsts-seconds
-returns-then-firsts-seconds c = order_clear c.args.modulus c.args.first.now c.args.second.now
-    c.ends-firsts.result.least c.ends-firsts.result.greatest c.ends-seconds.result.least c.ends-seconds.result.greatest
-    c.requires.first_normal c.requires.second_normal c.requires.few c.ends-firsts.ensures c.ends-seconds.ensures c.if-firsts-seconds.true
+pub returns-then-greatest-least-2 : goal.returns-then-greatest-least-2
+returns-then-greatest-least-2 c = order_clear c.args.modulus c.args.first.now c.args.second.now
+    c.greatest-else-greatest-least.result c.least-else-greatest-least.result c.requires.first_normal c.requires.second_normal c.requires.few
+    c.greatest-else-greatest-least.ensures.last c.least-else-greatest-least.ensures.first c.if-greatest-least-2.true
 
-pub returns-else-firsts-seconds : goal.returns-else-firsts-seconds
-returns-else-firsts-seconds c = order_open c.args.modulus c.args.first.now c.args.second.now
-    c.ends-firsts.result.least c.ends-firsts.result.greatest c.ends-seconds.result.least c.ends-seconds.result.greatest
-    c.ends-firsts.ensures c.ends-seconds.ensures c.if-seconds-firsts.false c.if-firsts-seconds.false
+pub returns-else-greatest-least-2 : goal.returns-else-greatest-least-2
+returns-else-greatest-least-2 c = order_open c.args.modulus c.args.first.now c.args.second.now
+    c.least.result c.greatest-else-greatest-least.result c.least-else-greatest-least.result c.greatest.result
+    c.least.ensures.member c.greatest-else-greatest-least.ensures.member c.least-else-greatest-least.ensures.member c.greatest.ensures.member
+    c.if-greatest-least.false c.if-greatest-least-2.false

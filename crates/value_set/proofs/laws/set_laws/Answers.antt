@@ -8,6 +8,7 @@ use Rattle.value_set.specs.Remainders.{HasRemainder}
 use Rattle.value_set.specs.StepFacts.{length-steps, steps_from, steps_have}
 use Rattle.value_set.proofs.Answering.{member_below}
 use Rattle.value_set.proofs.Bounds.{gather_below, join_below, make_below, put_below}
+use Rattle.value_set.proofs.EndsOfSets.{greatest_has, greatest_last, least_first, least_has}
 use Rattle.value_set.proofs.Equal.{same_members}
 use Rattle.value_set.proofs.Formulas.{combines_have, combines_normal, gathers_have, gathers_normal, make_exact}
 use Rattle.value_set.proofs.Joins.{includes_from_test, join_includes_first, join_includes_second, join_normal, test_from_includes}
@@ -28,6 +29,10 @@ returns c = record {
   member = member_found;
   asked = asked;
   listed = listed;
+  least_has = least_has;
+  least = least_first;
+  greatest_has = greatest_has;
+  greatest = greatest_last;
   single = λ m v below. (single_normal m v below, (0, omega arith, refl));
   only = only_number;
   single_rest = single_rest;

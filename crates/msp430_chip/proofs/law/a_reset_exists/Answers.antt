@@ -1,5 +1,0 @@
-use Rattle.msp430_chip.proofs.Resets.{first_is_reset}
-use Rattle.msp430_chip.proofs.law.a_reset_exists.Goals as goal
-
-pub returns : goal.returns
-returns c = first_is_reset
