@@ -1,7 +1,7 @@
 //! The happy path: a machine runs the start of a program.
 
 use crate::{Choices, Machine, Stepped};
-use image::{Image, Rules};
+use image::{Image, RamRange, Rules};
 use std::alloc::Global;
 
 /// How many items the next step gives, or 0 where it isn't done.
@@ -14,11 +14,11 @@ fn items_of_step(machine: &mut Machine, image: &Image, choices: &mut Choices) ->
 
 /// How many items each of four steps gives, and the registers behind them.
 fn ran(alloc: Global, image: &Image) -> Option<([usize; 4], [u16; 16])> {
-    let rules = Rules::Msp430 {
+    let rules = Rules::Msp430(RamRange {
         lo: 0x0200,
         hi: 0x027F,
         mirror: None,
-    };
+    });
     let mut machine = Machine::reset(alloc, image, rules).ok()?;
     let mut choices = Choices::new(Vec::new(alloc));
     let mut counts = [0; 4];

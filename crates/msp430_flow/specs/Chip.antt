@@ -90,8 +90,8 @@ msp430_flow setting = record {
 
 -- a device whose image was read under the rules of the chip with this RAM
 pub record IsProgram (device : Device) : Type 0 where
-  pub read : IsReadUnder (Msp430 device.ram.lo device.ram.hi device.ram.mirror) device.image
-  pub ram : IsRamRange (Msp430 device.ram.lo device.ram.hi device.ram.mirror)
+  pub read : IsReadUnder (Msp430 device.ram) device.image
+  pub ram : IsRamRange (Msp430 device.ram)
   pub top : device.ram.hi < 65536
 
 -- with call strings of at most eight sites
