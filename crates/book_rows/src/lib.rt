@@ -11,6 +11,8 @@ mod crews;
 mod exchanges;
 #[cfg(test)]
 mod facts;
+#[cfg(test)]
+mod opens;
 mod shape;
 #[cfg(test)]
 mod stack_pointers;

@@ -1,4 +1,4 @@
--- The tests of instruction bytes, sets, causes and items hold exactly where the two are one.
+-- The tests of instruction bytes, sets and items hold exactly where the two are one.
 use Rattle.std.specs.Prelude.{◌≡◌, ℕ, ◌-◌, ◌&&◌, false, List, [], ◌∷◌, ◌++◌, length, replicate}
 use Rattle.std.specs.Bool.{Decides}
 use Rattle.std.specs.Cmp.{booleans_Decides}
@@ -7,8 +7,6 @@ use Rattle.std.proofs.Common.{refl, ap, arith}
 use Rattle.std.proofs.Math.Dec.{eqb}
 use Rattle.std.proofs.lemmas.Bool.Decides.{Decides-eqb, Decides-and, Decides-like}
 use Rattle.std.proofs.lemmas.Slice.Eq.{slice_eq-Decides}
-use Rattle.call_context.specs.declared.shown.Cause.{Cause}
-use Rattle.call_context.specs.declared.shown.Cause.TheVariants.{Fetch, Targets, Store}
 use Rattle.call_context.specs.declared.shown.Item.{Item}
 use Rattle.call_context.specs.declared.shown.Item.TheVariants.{Instr, Edge, Access, Stack}
 use Rattle.call_context.specs.declared.shown.Set.{Set}
@@ -16,7 +14,6 @@ use Rattle.call_context.specs.declared.shown.Set.TheVariants.{B, W}
 use Rattle.chip_numbers.specs.declared.space.Space.{Space}
 use Rattle.chip_numbers.specs.contracts.space.Space.{the_type}
 use denote.Enum.Bare.{same_true, true_same}
-use Rattle.call_context.specs.contracts.shown.CausePartialEq.TheImpl as cause_impl
 use Rattle.call_context.specs.contracts.shown.ItemPartialEq.TheImpl as item_impl
 use Rattle.call_context.specs.contracts.shown.SetPartialEq.TheImpl as set_impl
 use Rattle.chip_numbers.specs.contracts.space.SpacePartialEq.TheImpl as space_impl
@@ -78,17 +75,6 @@ set_same (W x) (B y) = apart (λ e. cc e)
 
 space_same : (a b : Space) → Decides ((space_impl.ghosts).eq a b) (a ≡ b)
 space_same a b = (same_true the_type tt a b, true_same the_type a b)
-
-pub cause_same : (a b : Cause) → Decides ((cause_impl.ghosts).eq a b) (a ≡ b)
-cause_same Fetch Fetch = (λ e. refl, λ e. refl)
-cause_same (Targets x) (Targets y) = Decides-like _ (ap Targets) (λ e. cc e) (form_same x y)
-cause_same (Store x) (Store y) = Decides-like _ (ap Store) (λ e. cc e) (form_same x y)
-cause_same Fetch (Targets y) = apart (λ e. cc e)
-cause_same Fetch (Store y) = apart (λ e. cc e)
-cause_same (Targets x) Fetch = apart (λ e. cc e)
-cause_same (Targets x) (Store y) = apart (λ e. cc e)
-cause_same (Store x) Fetch = apart (λ e. cc e)
-cause_same (Store x) (Targets y) = apart (λ e. cc e)
 
 pub item_same : (a b : Item) → Decides ((item_impl.ghosts).eq a b) (a ≡ b)
 item_same (Instr pc bytes) (Instr pc' bytes') = Decides-like _

@@ -12,5 +12,5 @@ pub use chip_numbers::Space;
 pub use laws::{equal_items_are_one, equal_nodes_are_one};
 pub use node::{Calls, Frame, Node, Unit};
 pub use sequence::Sequence;
-pub use shown::{Cause, InstrBytes, Item, Set};
+pub use shown::{InstrBytes, Item, Set};
 pub use value_set::Few;

@@ -1,4 +1,4 @@
-//! What a unit of work shows of the program, and where it stops short.
+//! What a unit of work shows of the program.
 
 ghost use Rattle.std.specs.Prelude.{◌≡◌, ◌≤◌, ◌<◌, ◌++◌, ◌∷◌, [], length};
 
@@ -6,17 +6,6 @@ use arrayvec::ArrayVec;
 use chip_numbers::Space;
 use std::marker::Model;
 use value_set::{Vs8, Vs16};
-
-/// Why a site is left open.
-#[derive(Clone, Copy, Debug, PartialEq, Eq, Hash)]
-pub enum Cause {
-    /// No instruction stands there.
-    Fetch,
-    /// A jump, call or return whose target set has more values than the limit.
-    Targets(Vs16),
-    /// A store whose set of addresses has one of the image.
-    Store(Vs16),
-}
 
 /// A value set of either width.
 #[derive(Clone, Copy, Debug, PartialEq, Eq, Hash)]

@@ -9,7 +9,7 @@ use Rattle.call_context.specs.declared.node.Unit.{Unit as WorkUnit}
 use Rattle.call_context.specs.declared.node.Unit.TheVariants.{One}
 use Rattle.chip_analysis.specs.declared.chip.Work.{Work}
 use Rattle.chip_analysis.specs.Analysis.{Analysis}
-use Rattle.item_lines.specs.Line.{open_line_of}
+use Rattle.report_bytes.specs.Opens.{open_line_of}
 use Rattle.cert_text.specs.Certificate.{is_below}
 use Rattle.cert_check.proofs.TableLemmas.{drop_next}
 use Rattle.cert_check.specs.Refusal.{Open, first_of, least_from, or_else, return_from, units_of, worked}

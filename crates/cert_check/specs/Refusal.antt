@@ -8,10 +8,10 @@ use Rattle.call_context.specs.declared.node.Node.{Node}
 use Rattle.call_context.specs.declared.node.Node.TheVariants.{At, Exit}
 use Rattle.call_context.specs.declared.node.Unit.{Unit as WorkUnit}
 use Rattle.call_context.specs.declared.node.Unit.TheVariants.{One, Back}
-use Rattle.call_context.specs.declared.shown.Cause.{Cause}
+use Rattle.chip_analysis.specs.declared.cause.Cause.{Cause}
 use Rattle.chip_analysis.specs.declared.chip.Work.{Work}
 use Rattle.chip_analysis.specs.Analysis.{Analysis}
-use Rattle.item_lines.specs.Line.{open_line_of}
+use Rattle.report_bytes.specs.Opens.{open_line_of}
 use Rattle.closed_book.specs.ClosedBook.{table_in}
 use Rattle.round_core.specs.Same.{same_frame}
 use Rattle.node_fields.specs.declared.outside.Outside.{Outside}

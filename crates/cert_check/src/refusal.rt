@@ -2,7 +2,8 @@
 
 ghost use Rattle.std.specs.Prelude.{◌≡◌};
 
-use call_context::{Cause, Node};
+use call_context::Node;
+use chip_analysis::Cause;
 use no_memory::Memory;
 use state_text::Outside;
 

@@ -1,7 +1,7 @@
 //! The walk over a table.
 
 ghost use Rattle.std.specs.Prelude.{◌≡◌, ◌+◌, ◌<◌, ◌^◌, ◌++◌, ◌∷◌, [], None, Some, if◌then◌else◌, flat_map, map, option_copied, length, IfOk, IfErr, OnOk};
-ghost use Rattle.item_lines.specs.Line.{open_line_of};
+ghost use Rattle.report_bytes.specs.Opens.{open_line_of};
 ghost use Rattle.closed_book.specs.ClosedBook.{table_in};
 ghost use Rattle.cert_text.specs.Certificate.{is_below};
 ghost use Rattle.cert_check.specs.Exits.{returned};
@@ -12,12 +12,12 @@ use crate::exits::{Exits, exits_in};
 use crate::laws::tables_are_known;
 use crate::refusal::{CheckError, Refusal};
 use crate::table::Table;
-use call_context::{Cause, Frame, Node, Unit};
+use call_context::{Frame, Node, Unit};
 use cert_text::Cert;
-use chip_analysis::Work;
+use chip_analysis::{Cause, Work};
 use closed_book::ClosedBook;
-use item_lines::open_line;
 use no_memory::Memory;
+use report_bytes::open_line;
 use state_text::LawfulText;
 use std::alloc::Global;
 

@@ -9,10 +9,10 @@ use Rattle.call_context.specs.declared.node.Node.{Node}
 use Rattle.call_context.specs.declared.node.Node.TheVariants.{At, Exit}
 use Rattle.call_context.specs.declared.node.Unit.{Unit as WorkUnit}
 use Rattle.call_context.specs.declared.node.Unit.TheVariants.{One, Back}
-use Rattle.call_context.specs.declared.shown.Cause.{Cause}
-use Rattle.call_context.specs.declared.shown.Cause.TheVariants.{Fetch, Targets}
 use Rattle.value_set.specs.Form.{make}
 use Rattle.call_context.specs.Nodes.{HasEntry, IsLocation, frame_of, pc_of}
+use Rattle.chip_analysis.specs.declared.cause.Cause.{Cause}
+use Rattle.chip_analysis.specs.declared.cause.Cause.TheVariants.{Fetch, Targets}
 use Rattle.chip_analysis.specs.Analysis.{AreFormed, IsOrdered, KeepsForm}
 use Rattle.chip_analysis.specs.Orderly.{IsOrderly, location_of}
 use Rattle.text_fields.specs.Numbers.{hex_number_is_exact, number_avoids}

@@ -5,8 +5,8 @@ ghost use Rattle.call_context.specs.declared.node.Frame.TheVariants.{Base};
 ghost use Rattle.call_context.specs.declared.node.Node.TheVariants.{At};
 ghost use Rattle.cert_rows.specs.Countdown as countdown;
 
-use call_context::{Calls, Cause, Frame, Node, Sequence, Unit};
-use chip_analysis::{Chip, OrderlyChip, Work};
+use call_context::{Calls, Frame, Node, Sequence, Unit};
+use chip_analysis::{Cause, Chip, OrderlyChip, Work};
 use no_memory::Memory;
 use state_text::{LawfulText, Outside, StateText};
 use std::alloc::Global;

@@ -2,8 +2,8 @@
 use Rattle.std.specs.Prelude.{ℕ, List, [], ◌∷◌, ◌++◌, codes}
 use Rattle.std.specs.Fmt.{decimal}
 use Rattle.call_context.specs.declared.node.Node.{Node}
-use Rattle.call_context.specs.declared.shown.Cause.{Cause}
-use Rattle.item_lines.specs.Line.{open_line_of}
+use Rattle.chip_analysis.specs.declared.cause.Cause.{Cause}
+use Rattle.report_bytes.specs.Opens.{open_line_of}
 use Rattle.node_fields.specs.Nodes.{node_field}
 use Rattle.node_fields.specs.declared.outside.Outside.{Outside}
 use Rattle.cert_text.specs.declared.fault.LineFault.{LineFault}

@@ -3,12 +3,13 @@
 ghost use Rattle.std.specs.Prelude.{◌≡◌, ◌++◌, IfOk, OnOk};
 ghost use Rattle.cert_verdict.specs.Lines as lines;
 
-use call_context::{Cause, Node};
+use call_context::Node;
 use cert_check::Refusal;
 use cert_text::LineFault;
-use item_lines::open_line;
+use chip_analysis::Cause;
 use no_memory::Memory;
 use node_fields::push_node;
+use report_bytes::open_line;
 use state_text::Outside;
 use std::alloc::{AllocError, Global};
 

@@ -4,8 +4,8 @@ use Rattle.std.specs.Prelude.{◌≡◌, ℕ, Option, Contains}
 use Rattle.call_context.specs.declared.node.Node.{Node}
 use Rattle.call_context.specs.declared.node.Unit.{Unit as WorkUnit}
 use Rattle.call_context.specs.declared.node.Unit.TheVariants.{One, Back}
-use Rattle.call_context.specs.declared.shown.Cause.{Cause}
 use Rattle.call_context.specs.Nodes.{pc_of, frame_of, HasEntry, IsLocation}
+use Rattle.chip_analysis.specs.declared.cause.Cause.{Cause}
 use Rattle.chip_analysis.specs.declared.chip.Work.{Work}
 use Rattle.chip_analysis.specs.Analysis.{Analysis, AreFormed, KeepsForm, IsOrdered}
 

@@ -4,7 +4,8 @@ ghost use Rattle.chip_analysis.specs.Analysis.{Analysis};
 ghost use Rattle.std.specs.Option.{option_copied};
 ghost use Rattle.std.specs.Prelude.{IfOk, ◌≡◌};
 
-use call_context::{Cause, Frame, Item, Node, Sequence, Unit};
+use crate::cause::Cause;
+use call_context::{Frame, Item, Node, Sequence, Unit};
 use no_memory::Memory;
 use std::alloc::Global;
 

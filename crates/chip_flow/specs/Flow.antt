@@ -1,9 +1,9 @@
 -- What a chip makes of what is known of a state, of which the works of its units are made.
 use Rattle.std.specs.Prelude.{ℕ, Option, List}
 use Rattle.call_context.specs.declared.node.Frame.{Frame}
-use Rattle.call_context.specs.declared.shown.Cause.{Cause}
 use Rattle.call_context.specs.declared.shown.Item.{Item}
 use Rattle.call_context.specs.declared.shown.Set.{Set}
+use Rattle.chip_analysis.specs.declared.cause.Cause.{Cause}
 use Rattle.chip_flow.specs.declared.calls.CallEffect.{CallEffect}
 use Rattle.chip_flow.specs.declared.going.Followed.{Followed}
 

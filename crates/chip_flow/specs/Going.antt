@@ -1,6 +1,6 @@
 -- Where an instruction goes on, by what it makes of what is known.
 use Rattle.std.specs.Prelude.{ℕ, if◌then◌else◌, List, [], ◌∷◌}
-use Rattle.call_context.specs.declared.shown.Cause.TheVariants.{Targets}
+use Rattle.chip_analysis.specs.declared.cause.Cause.TheVariants.{Targets}
 use Rattle.value_set.specs.declared.form.Form.{Form}
 use Rattle.unit_ways.specs.Targets.{are_too_many}
 use Rattle.unit_ways.specs.Ways.{Going, Way, back_at, edges_of, posts_of, ways_of, ways_to}

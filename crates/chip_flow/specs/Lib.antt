@@ -3,6 +3,7 @@ pub mod Flow
 pub mod Going
 pub mod Works
 pub mod Along
+pub mod Causes
 pub mod Marks
 pub mod MarkFacts
 pub mod Opens

@@ -9,10 +9,10 @@ use Rattle.call_context.specs.declared.node.Node.{Node}
 use Rattle.call_context.specs.declared.node.Node.TheVariants.{At, Exit}
 use Rattle.call_context.specs.declared.node.Unit.{Unit as WorkUnit}
 use Rattle.call_context.specs.declared.node.Unit.TheVariants.{One, Back}
-use Rattle.call_context.specs.declared.shown.Cause.{Cause}
-use Rattle.call_context.specs.declared.shown.Cause.TheVariants.{Fetch, Targets}
 use Rattle.call_context.specs.declared.shown.Item.TheVariants.{Edge}
 use Rattle.call_context.specs.Nodes.{pc_of}
+use Rattle.chip_analysis.specs.declared.cause.Cause.{Cause}
+use Rattle.chip_analysis.specs.declared.cause.Cause.TheVariants.{Fetch, Targets}
 use Rattle.chip_analysis.specs.declared.chip.Work.{Work}
 use Rattle.chip_analysis.specs.Analysis.{Analysis, AreFormed}
 use Rattle.chip_analysis.specs.Orderly.{location_of}

@@ -5,8 +5,8 @@ use Rattle.call_context.specs.declared.node.Node.{Node}
 use Rattle.call_context.specs.declared.node.Node.TheVariants.{At, Exit}
 use Rattle.call_context.specs.declared.node.Unit.{Unit as WorkUnit}
 use Rattle.call_context.specs.declared.node.Unit.TheVariants.{One, Back}
-use Rattle.call_context.specs.declared.shown.Cause.{Cause}
 use Rattle.call_context.specs.Nodes.{IsLocation}
+use Rattle.chip_analysis.specs.declared.cause.Cause.{Cause}
 use Rattle.chip_analysis.specs.declared.chip.Work.{Work}
 use Rattle.chip_analysis.specs.Analysis.{Analysis, AreFormed}
 use Rattle.chip_analysis.specs.Orderly.{IsOrderly, location_of}

@@ -1,8 +1,8 @@
 -- Where a book breaks a stated limit.
 use Rattle.std.specs.Prelude.{◌≡◌, ℕ, Some, List}
 use Rattle.call_context.specs.declared.node.Node.{Node}
-use Rattle.call_context.specs.declared.shown.Cause.{Cause}
 use Rattle.call_context.specs.Nodes.{pc_of, IsLocation}
+use Rattle.chip_analysis.specs.declared.cause.Cause.{Cause}
 use Rattle.chip_analysis.specs.Analysis.{Analysis}
 use Rattle.round_core.specs.Machine.{Held}
 use Rattle.round_core.specs.Table.{table_of}

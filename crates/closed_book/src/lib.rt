@@ -15,7 +15,7 @@ ghost use Rattle.std.specs.List.{IsDistinct};
 ghost use Rattle.std.specs.Map.{keys_of, values_of};
 ghost use Rattle.call_context.specs.declared.node.Node.{Node};
 ghost use Rattle.call_context.specs.declared.node.Unit.{Unit as WorkUnit};
-ghost use Rattle.call_context.specs.declared.shown.Cause.{Cause};
+ghost use Rattle.chip_analysis.specs.declared.cause.Cause.{Cause};
 ghost use Rattle.chip_analysis.specs.declared.chip.Work.{Work};
 ghost use Rattle.chip_analysis.specs.Table.{IsClosedTable};
 ghost use Rattle.closed_book.specs.BookFacts.{ArePairs, IsItsTable};

@@ -4,7 +4,7 @@
 use crate::images::image_of;
 use chip_analysis::Chip;
 use entry_value::Word;
-use image::Rules;
+use image::RamRange;
 use mcs51_flow::Limits;
 use msp430_flow::{Kept, Msp430Chip};
 use std::alloc::Global;
@@ -16,7 +16,7 @@ const UNMARKED: &str = ":06F00000049534400700F6";
 
 /// The chip with the program of a record, and RAM from 0200h to 09FFh, whose first 200h bytes answer at 1000h too.
 fn chip_of(alloc: Global, record: &str) -> Option<Msp430Chip> {
-    let rules = Rules::Msp430 {
+    let ram = RamRange {
         lo: 0x0200,
         hi: 0x09FF,
         mirror: Some((0x1000, 0x11FF)),
@@ -25,11 +25,10 @@ fn chip_of(alloc: Global, record: &str) -> Option<Msp430Chip> {
         calls: 6,
         targets: 64,
     };
-    let mirror = Some((0x1000, 0x11FF));
     if let Ok(text) = format!(in alloc; "{record}\n:02FFFE0000F011\n:00000001FF\n")
-        && let Some(image) = image_of(alloc, rules, text.as_str())
+        && let Some(image) = image_of(alloc, ram.rules(), text.as_str())
     {
-        return Msp430Chip::new(alloc, image, 0x0200, 0x09FF, mirror, limits).ok();
+        return Msp430Chip::new(alloc, image, ram, limits).ok();
     }
     None
 }

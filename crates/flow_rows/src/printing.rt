@@ -4,7 +4,7 @@ use crate::images::image_of;
 use chip_analysis::Chip;
 use chip_law::LawfulChip;
 use closing_law::{ClosedBook, read_closed};
-use image::Rules;
+use image::RamRange;
 use item_lines::InstrText;
 use mcs51_flow::Limits;
 use msp430_flow::Msp430Chip;
@@ -30,7 +30,7 @@ T 0280 1
 ";
 
 fn chip_of(alloc: Global) -> Option<Msp430Chip> {
-    let rules = Rules::Msp430 {
+    let ram = RamRange {
         lo: 0x0200,
         hi: 0x09FF,
         mirror: None,
@@ -39,8 +39,8 @@ fn chip_of(alloc: Global) -> Option<Msp430Chip> {
         calls: 6,
         targets: 64,
     };
-    let image = image_of(alloc, rules, LOOPS)?;
-    Msp430Chip::new(alloc, image, 0x0200, 0x09FF, None, limits).ok()
+    let image = image_of(alloc, ram.rules(), LOOPS)?;
+    Msp430Chip::new(alloc, image, ram, limits).ok()
 }
 
 /// Whether the text is printed of a book.

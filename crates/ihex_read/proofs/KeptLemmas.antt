@@ -8,6 +8,7 @@ use Rattle.std.proofs.lemmas.List.Folds.{list_any_at, list_any-append, find-appe
 use Rattle.std.proofs.lemmas.List.{take_all}
 use Rattle.std.proofs.Math.Seq.{take-suc}
 use Rattle.ihex_read.specs.declared.fault.HexFault.TheVariants.{OutOfRange, Clash, Misplaced, NoReset}
+use Rattle.image.specs.declared.ram_range.RamRange.{RamRange}
 use Rattle.image.specs.declared.rule_set.Rules.{Rules}
 use Rattle.image.specs.declared.rule_set.Rules.TheVariants.{Msp430, Mcs51}
 use Rattle.image.specs.declared.tail.Tail.{Tail}
@@ -73,19 +74,18 @@ free_at rules image placed holds free at barred (Some value) is =
     let some = list_any_at (is_barred rules) placed place.0 (at, value) place.1 (rw place.2 barred) in
     cc (some, free)
 
-below_barred : (lo hi : ℕ) (mirror : Option (ℕ × ℕ)) (at : ℕ) → at < 512 → is_misplaced (Msp430 lo hi mirror) at ≡ true
-below_barred lo hi mirror at h = grind (arith, nat_tests)
+below_barred : (ram : RamRange) (at : ℕ) → at < 512 → is_misplaced (Msp430 ram) at ≡ true
+below_barred ram at h = grind (arith, nat_tests)
 
-ram_barred : (lo hi : ℕ) (mirror : Option (ℕ × ℕ)) (at : ℕ) → lo ≤ at → at ≤ hi → is_misplaced (Msp430 lo hi mirror) at ≡ true
-ram_barred lo hi mirror at low high = grind (arith, nat_tests)
+ram_barred : (ram : RamRange) (at : ℕ) → ram.lo ≤ at → at ≤ ram.hi → is_misplaced (Msp430 ram) at ≡ true
+ram_barred ram at low high = grind (arith, nat_tests)
 
 either_true : (a b : Bool) → b ≡ true → (a || b) ≡ true
 either_true true b h = refl
 either_true false b h = h
 
-mirror_barred : (lo hi : ℕ) (mirror : Option (ℕ × ℕ)) (at : ℕ) → lies_in_mirror mirror at ≡ true
-    → is_misplaced (Msp430 lo hi mirror) at ≡ true
-mirror_barred lo hi mirror at there = either_true (lies_in 0 511 at || lies_in lo hi at) (lies_in_mirror mirror at) there
+mirror_barred : (ram : RamRange) (at : ℕ) → lies_in_mirror ram.mirror at ≡ true → is_misplaced (Msp430 ram) at ≡ true
+mirror_barred ram at there = either_true (lies_in 0 511 at || lies_in ram.lo ram.hi at) (lies_in_mirror ram.mirror at) there
 
 both_there : (a b : Bool) → not (a && b) ≡ false → (a ≡ true) × (b ≡ true)
 both_there true true h = (refl, refl)
@@ -98,12 +98,12 @@ ended_reset false lacks is h = cc is
 
 suits : (rules : Rules) (image : List (Option ℕ)) (placed : List (ℕ × ℕ)) → Holds image placed → list_any (is_barred rules) placed ≡ false
     → lacks_reset rules placed ≡ false → Suits rules image
-suits (Msp430 lo hi mirror) image placed holds free reset =
-    let rules = Msp430 lo hi mirror in
+suits (Msp430 range) image placed holds free reset =
+    let rules = Msp430 range in
     let has = both_there _ _ reset in record {
-      peripherals = λ at below. free_at rules image placed holds free at (below_barred lo hi mirror at below) _ refl;
-      ram = λ at low high. free_at rules image placed holds free at (ram_barred lo hi mirror at low high) _ refl;
-      mirrored = λ at there. free_at rules image placed holds free at (mirror_barred lo hi mirror at there) _ refl;
+      peripherals = λ at below. free_at rules image placed holds free at (below_barred range at below) _ refl;
+      ram = λ at low high. free_at rules image placed holds free at (ram_barred range at low high) _ refl;
+      mirrored = λ at there. free_at rules image placed holds free at (mirror_barred range at there) _ refl;
       reset_low = sym (has_byte-some image placed 65534 holds) ∙ has.0;
       reset_high = sym (has_byte-some image placed 65535 holds) ∙ has.1;
     }

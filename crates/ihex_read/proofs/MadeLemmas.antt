@@ -48,7 +48,7 @@ any_same p q (x ∷ xs) h = rw (h x, any_same p q xs h) refl
 
 resets : (rules : Rules) (image : List (Option ℕ)) (placed : List (ℕ × ℕ)) → Holds image placed
     → lacks_reset rules placed ≡ not (is_resettable rules image)
-resets (Msp430 lo hi mirror) image placed holds = rw (has_byte-some image placed 65534 holds, has_byte-some image placed 65535 holds) refl
+resets (Msp430 ram) image placed holds = rw (has_byte-some image placed 65534 holds, has_byte-some image placed 65535 holds) refl
 resets Mcs51 image placed holds = refl
 
 -- the faults that lines in front tell

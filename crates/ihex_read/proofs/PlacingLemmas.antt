@@ -4,6 +4,7 @@ use Rattle.std.specs.Prelude.{◌&&◌, ◌||◌, ◌==◌, not, nat_lt, nat_le,
 use Rattle.std.specs.List.{list_any, enumerate_from}
 use Rattle.std.proofs.lemmas.Bool.Decides.{nat_tests}
 use Rattle.std.proofs.lemmas.List.{drop_more}
+use Rattle.image.specs.declared.ram_range.RamRange.{RamRange}
 use Rattle.image.specs.declared.rule_set.Rules.TheVariants.{Msp430, Mcs51}
 use Rattle.image.specs.Kept.{lies_in, lies_in_mirror}
 use Rattle.ihex_read.specs.ImageText.{is_misplaced}
@@ -55,12 +56,12 @@ mirror_nowhere [] = refl
 mirror_nowhere (b ∷ bytes) = mirror_nowhere bytes
 
 -- some byte of a row is misplaced in one of the three ranges
-pub barred-row : (lo hi : ℕ) (mirror : Option (ℕ × ℕ)) (bytes : List (ℕ × ℕ))
-    → list_any (λ byte. is_misplaced (Msp430 lo hi mirror) byte.0) bytes
-    ≡ ((list_any (λ byte. lies_in 0 511 byte.0) bytes || list_any (λ byte. lies_in lo hi byte.0) bytes) || list_any (λ byte. lies_in_mirror mirror byte.0) bytes)
-barred-row lo hi mirror bytes =
-    any_either (λ byte. lies_in 0 511 byte.0 || lies_in lo hi byte.0) (λ byte. lies_in_mirror mirror byte.0) bytes
-    ∙ ap (λ t. t || list_any (λ byte. lies_in_mirror mirror byte.0) bytes) (any_either (λ byte. lies_in 0 511 byte.0) (λ byte. lies_in lo hi byte.0) bytes)
+pub barred-row : (ram : RamRange) (bytes : List (ℕ × ℕ))
+    → list_any (λ byte. is_misplaced (Msp430 ram) byte.0) bytes
+    ≡ ((list_any (λ byte. lies_in 0 511 byte.0) bytes || list_any (λ byte. lies_in ram.lo ram.hi byte.0) bytes) || list_any (λ byte. lies_in_mirror ram.mirror byte.0) bytes)
+barred-row ram bytes =
+    any_either (λ byte. lies_in 0 511 byte.0 || lies_in ram.lo ram.hi byte.0) (λ byte. lies_in_mirror ram.mirror byte.0) bytes
+    ∙ ap (λ t. t || list_any (λ byte. lies_in_mirror ram.mirror byte.0) bytes) (any_either (λ byte. lies_in 0 511 byte.0) (λ byte. lies_in ram.lo ram.hi byte.0) bytes)
 
 pub barred_nowhere : (bytes : List (ℕ × ℕ)) → list_any (λ byte. is_misplaced Mcs51 byte.0) bytes ≡ false
 barred_nowhere [] = refl

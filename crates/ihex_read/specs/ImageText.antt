@@ -42,12 +42,12 @@ has_byte placed at = list_any (λ byte. byte.0 == at) placed
 
 -- the MSP430 has peripherals below 0200h, and its RAM, which the mirror shows again, holds nothing of an image
 abbrev pub is_misplaced : Rules → ℕ → Bool
-is_misplaced (Msp430 lo hi mirror) at = (lies_in 0 511 at || lies_in lo hi at) || lies_in_mirror mirror at
+is_misplaced (Msp430 ram) at = (lies_in 0 511 at || lies_in ram.lo ram.hi at) || lies_in_mirror ram.mirror at
 is_misplaced Mcs51 at = false
 
 -- the MSP430 starts at the word at FFFEh
 abbrev pub lacks_reset : Rules → List (ℕ × ℕ) → Bool
-lacks_reset (Msp430 lo hi mirror) placed = not (has_byte placed 65534 && has_byte placed 65535)
+lacks_reset (Msp430 ram) placed = not (has_byte placed 65534 && has_byte placed 65535)
 lacks_reset Mcs51 placed = false
 
 abbrev pub is_end : List ℕ → Bool

@@ -26,7 +26,7 @@ written image [] = image
 written image (byte ∷ bytes) = written (slice_set image byte.0 (Some byte.1)) bytes
 
 abbrev pub is_resettable : Rules → List (Option ℕ) → Bool
-is_resettable (Msp430 lo hi mirror) image = is_some (byte_at image 65534) && is_some (byte_at image 65535)
+is_resettable (Msp430 ram) image = is_some (byte_at image 65534) && is_some (byte_at image 65535)
 is_resettable Mcs51 image = true
 
 abbrev pub is_outside : ℕ × ℕ → Bool

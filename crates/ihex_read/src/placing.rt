@@ -8,7 +8,7 @@ ghost use Rattle.image.specs.Kept.{lies_in, lies_in_mirror};
 ghost use Rattle.ihex_read.specs.ImageText.{is_misplaced};
 ghost use Rattle.ihex_read.specs.Loading.{is_outside, is_taken, is_resettable, written};
 
-use image::Rules;
+use image::{RamRange, Rules};
 
 /// One more than the highest address.
 pub const END_OF_MEMORY: usize = 65536;
@@ -43,21 +43,21 @@ pub fn is_barred(rules: Rules, start: usize, bytes: &[u8]) -> bool
     ensures { result ≡ list_any (λ byte. is_misplaced rules byte.0) (enumerate_from start bytes.now) }
 {
     match rules {
-        Rules::Msp430 { lo, hi, mirror } => stand_in_any(lo, hi, mirror, start, bytes),
+        Rules::Msp430(ram) => stand_in_any(ram, start, bytes),
         Rules::Mcs51 => false,
     }
 }
 
 /// Whether some of the bytes stands where an MSP430 allows none: below 0200h, in RAM, or in its mirror.
-fn stand_in_any(lo: u16, hi: u16, mirror: Option<(u16, u16)>, start: usize, bytes: &[u8]) -> bool
+fn stand_in_any(ram: RamRange, start: usize, bytes: &[u8]) -> bool
     requires { start < 2 ^ 33 }
     ensures { (let placed = enumerate_from start bytes.now in result
-        ≡ ((list_any (λ byte. lies_in 0 511 byte.0) placed || list_any (λ byte. lies_in lo hi byte.0) placed)
-        || list_any (λ byte. lies_in_mirror mirror byte.0) placed)) }
+        ≡ ((list_any (λ byte. lies_in 0 511 byte.0) placed || list_any (λ byte. lies_in ram.lo ram.hi byte.0) placed)
+        || list_any (λ byte. lies_in_mirror ram.mirror byte.0) placed)) }
 {
     stand_in(0, 0x1FF, start, bytes)
-        || stand_in(lo, hi, start, bytes)
-        || stand_in_mirror(mirror, start, bytes)
+        || stand_in(ram.lo, ram.hi, start, bytes)
+        || stand_in_mirror(ram.mirror, start, bytes)
 }
 
 /// Whether some of the bytes stands in the mirror of RAM.
@@ -96,7 +96,7 @@ pub fn can_reset(rules: Rules, image: &[Option<u8>]) -> bool
     ensures { result ≡ is_resettable rules image.now }
 {
     match rules {
-        Rules::Msp430 { .. } => image[0xFFFE].is_some() && image[0xFFFF].is_some(),
+        Rules::Msp430(_) => image[0xFFFE].is_some() && image[0xFFFF].is_some(),
         Rules::Mcs51 => true,
     }
 }

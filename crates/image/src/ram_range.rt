@@ -2,6 +2,7 @@
 
 ghost use Rattle.std.specs.Prelude.{◌≡◌, ◌<◌, ◌↔◌, IsTrue, MatchOption};
 ghost use Rattle.image.specs.Kept.{IsMirror, IsRamRange};
+ghost use Rattle.image.specs.declared.ram_range.RamRange.{RamRange as ARamRange};
 
 use crate::rule_set::Rules;
 
@@ -30,8 +31,8 @@ fn may_mirror(lo: u16, hi: u16, first: u16, last: u16) -> bool
 impl RamRange {
     /// RAM that stands there, where the rules of the chip let it and its mirror stand there.
     pub fn new(lo: u16, hi: u16, mirror: Option<(u16, u16)>) -> Option<RamRange>
-        ensures { MatchOption result (¬ IsRamRange (Rules.Msp430 lo hi mirror))
-            (λ ram. (ram ≡ record { lo = lo; hi = hi; mirror = mirror }) × IsRamRange (Rules.Msp430 lo hi mirror)) }
+        ensures { (let asked : ARamRange = record { lo = lo; hi = hi; mirror = mirror } in
+            MatchOption result (¬ IsRamRange (Rules.Msp430 asked)) (λ ram. (ram ≡ asked) × IsRamRange (Rules.Msp430 asked))) }
     {
         if lo % 2 != 0 || hi % 2 != 1 || lo < 0x0200 || hi <= lo {
             return None;
@@ -44,12 +45,8 @@ impl RamRange {
 
     /// What such a chip asks of an image.
     pub fn rules(self) -> Rules
-        ensures { result ≡ Rules.Msp430 self.lo self.hi self.mirror }
+        ensures { result ≡ Rules.Msp430 self }
     {
-        Rules::Msp430 {
-            lo: self.lo,
-            hi: self.hi,
-            mirror: self.mirror,
-        }
+        Rules::Msp430(self)
     }
 }

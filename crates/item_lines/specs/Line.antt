@@ -1,12 +1,10 @@
--- The lines of a report, without their line feeds.
+-- The lines of items, without their line feeds.
 use Rattle.std.specs.Prelude.{ℕ, Bool, ◌==◌, List, [], ◌∷◌, ◌++◌, codes, if◌then◌else◌}
 use Rattle.std.specs.List.{flat_map}
 use Rattle.call_context.specs.declared.shown.Set.{Set}
 use Rattle.call_context.specs.declared.shown.Set.TheVariants.{B, W}
 use Rattle.chip_numbers.specs.declared.space.Space.{Space}
 use Rattle.chip_numbers.specs.declared.space.Space.TheVariants.{Mem, Ram, Sfr, Xram, Code}
-use Rattle.call_context.specs.declared.shown.Cause.{Cause}
-use Rattle.call_context.specs.declared.shown.Cause.TheVariants.{Fetch, Targets, Store}
 use Rattle.call_context.specs.declared.shown.Item.{Item}
 use Rattle.call_context.specs.declared.shown.Item.TheVariants.{Instr, Edge, Access, Stack}
 use Rattle.hex_digits.specs.Digits.{hex, short_hex, hex_bytes}
@@ -53,9 +51,3 @@ item_line_of text (Edge origin target) = codes "E " ++ hex 4 origin ++ codes " "
 item_line_of text (Access pc space write size at) =
     codes "M " ++ hex 4 pc ++ codes " " ++ space_text space ++ codes " " ++ kind_text write size ++ codes " " ++ set_text at
 item_line_of text (Stack pc at) = codes "S " ++ hex 4 pc ++ codes " " ++ set_text at
-
--- the line of an open at a place
-abbrev pub open_line_of : ℕ → Cause → List ℕ
-open_line_of pc Fetch = codes "O " ++ hex 4 pc ++ codes " Fetch"
-open_line_of pc (Targets values) = codes "O " ++ hex 4 pc ++ codes " Targets " ++ word_set_text values
-open_line_of pc (Store values) = codes "O " ++ hex 4 pc ++ codes " Store " ++ word_set_text values

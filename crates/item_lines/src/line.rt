@@ -1,11 +1,11 @@
-//! The lines of a report, one for each item and open.
+//! The lines of a report, one for each item.
 
 ghost use Rattle.std.specs.Prelude.{◌≡◌, ◌++◌, ◌∷◌, codes, IfOk, OnOk, OnErr};
 ghost use Rattle.hex_digits.specs.Digits.{hex, short_hex, hex_bytes};
-ghost use Rattle.item_lines.specs.Line.{word_set_text, byte_set_text, set_text, item_line_of, open_line_of, space_text, kind_text, comma_list};
+ghost use Rattle.item_lines.specs.Line.{word_set_text, byte_set_text, set_text, item_line_of, space_text, kind_text, comma_list};
 
 use crate::instr_text::InstrText;
-use call_context::{Cause, Item, Set, Space};
+use call_context::{Item, Set, Space};
 use hex_digits::{hex_byte, hex_word, push_short_hex};
 use no_memory::Memory;
 use std::alloc::{AllocError, Global};
@@ -52,7 +52,7 @@ fn push_steps(line: &mut Vec<u8>, run: &Progression) -> Result<(), AllocError>
 }
 
 /// Adds the text of a set of words.
-fn push_word_set(line: &mut Vec<u8>, values: &Vs16) -> Result<(), AllocError>
+pub fn push_word_set(line: &mut Vec<u8>, values: &Vs16) -> Result<(), AllocError>
     ensures { OnOk result (line.new.items ≡ line.old.items ++ word_set_text values.now) }
 {
     match values.form() {
@@ -107,7 +107,7 @@ pub fn space_name(space: Space) -> &'static [u8]
 }
 
 /// A letter, a space and an address, as each line begins.
-fn line_at(alloc: Global, letter: u8, pc: u16) -> Result<Vec<u8>, AllocError>
+pub fn line_at(alloc: Global, letter: u8, pc: u16) -> Result<Vec<u8>, AllocError>
     ensures { IfOk result (λ line. line.items ≡ letter ∷ 32 ∷ hex 4 pc) }
 {
     let mut line = Vec::new(alloc);
@@ -174,41 +174,12 @@ pub fn item_line<C: InstrText>(alloc: Global, chip: &C, item: &Item) -> Result<V
     }
 }
 
-/// The line of an open, without its line feed.
-pub fn open_line(alloc: Global, pc: u16, cause: &Cause) -> Result<Vec<u8>, Memory>
-    ensures { IfOk result (λ line. line.items ≡ open_line_of pc cause.now) }
-{
-    let mut line = line_at(alloc, b'O', pc)?;
-    match cause {
-        Cause::Fetch => line.extend_from_slice(b" Fetch")?,
-        Cause::Targets(values) => {
-            line.extend_from_slice(b" Targets ")?;
-            push_word_set(&mut line, values)?;
-        }
-        Cause::Store(values) => {
-            line.extend_from_slice(b" Store ")?;
-            push_word_set(&mut line, values)?;
-        }
-    }
-    Ok(line)
-}
-
 /// Appends the line of an item. A refusal appends nothing.
 pub fn put_item<C: InstrText>(chip: &C, item: &Item, out: &mut Vec<u8>) -> Result<(), Memory>
     ensures appended { OnOk result (out.new.items ≡ out.old.items ++ item_line_of (C.text_of chip.now) item.now) }
     ensures refused { OnErr result (out.new.items ≡ out.old.items) }
 {
     let line = item_line(*out.allocator(), chip, item)?;
-    out.extend_from_slice(line.as_slice())?;
-    Ok(())
-}
-
-/// Appends the line of an open. A refusal appends nothing.
-pub fn put_open(pc: u16, cause: &Cause, out: &mut Vec<u8>) -> Result<(), Memory>
-    ensures appended { OnOk result (out.new.items ≡ out.old.items ++ open_line_of pc cause.now) }
-    ensures refused { OnErr result (out.new.items ≡ out.old.items) }
-{
-    let line = open_line(*out.allocator(), pc, cause)?;
     out.extend_from_slice(line.as_slice())?;
     Ok(())
 }

@@ -14,7 +14,7 @@ use Rattle.image.specs.declared.tail.Tail.{Tail}
 use Rattle.image.specs.declared.tail.Tail.TheVariants.{Blank}
 use Rattle.ihex_read.specs.ImageText.{Denotes, Ends, FirstFault, of_line, no_end, trailing, GoesOnBehind, fault_of, has_byte, is_end, lacks_reset, placed_of}
 use Rattle.text_lines.specs.Lines.{lines_of}
-use Rattle.made_programs.specs.Chips.{rules_of}
+use Rattle.made_programs.specs.Chips.{made_ram, rules_of}
 use Rattle.made_programs.proofs.Accepted.{IsFree, IsLaid, laid_none, laid_below, placed_more}
 use Rattle.image_gen.specs.LengthFacts.{length-mcs51_program, length-msp430_program}
 use Rattle.made_programs.proofs.Programs.{low_first_bytes, mcs51_jump_bytes, msp430_bytes, mcs51_bytes}
@@ -94,7 +94,7 @@ two_laid chosen at bytes next more first second behind free =
     (one, laid_stretch chosen (rows_of at bytes) next more one second (λ place above. free place (omega arith)))
 
 -- above RAM that ends at 09FFh
-free_above : (from : ℕ) → 0x0A00 ≤ from → IsFree (rules.Msp430 0x0200 0x09FF None) from
+free_above : (from : ℕ) → 0x0A00 ≤ from → IsFree (rules.Msp430 made_ram) from
 free_above from h at above =
     or_from (lies_in 0 511 at || lies_in 512 2559 at) false
     (or_from (lies_in 0 511 at) (lies_in 512 2559 at) (and_right (nat_le 0 at) (nat_le at 511) (lt-leb at 511 (omega arith)))
@@ -118,12 +118,12 @@ both_there placed low high =
     let second : has_byte (placed ++ added) 65535 ≡ true = list_any-append (λ byte. byte.0 == 65535) placed added ∙ or_right (has_byte placed 65535) true refl in
     rw (first, second) refl
 
-resets : (chosen : Rules) (lines : List (List ℕ)) → chosen ≡ rules.Msp430 0x0200 0x09FF None → IsLaid chosen lines 0xFFFE
+resets : (chosen : Rules) (lines : List (List ℕ)) → chosen ≡ rules.Msp430 made_ram → IsLaid chosen lines 0xFFFE
     → lacks_reset chosen (placed_of (lines ++ rows_of 0xFFFE (low_first 0x4000))) ≡ false
 resets chosen lines is laid =
     let row : IsRow 0xFFFE (low_first 0x4000) = record { starts = omega arith; short = omega arith; bytes_are = low_first_bytes 0x4000 (omega arith) } in
     let placed = placed_more chosen lines 0xFFFE 0xFFFE (low_first 0x4000) laid row in
-    rw is (ap (λ xs. lacks_reset (rules.Msp430 0x0200 0x09FF None) xs) placed ∙ both_there (placed_of lines) 0x00 0x40)
+    rw is (ap (λ xs. lacks_reset (rules.Msp430 made_ram) xs) placed ∙ both_there (placed_of lines) 0x00 0x40)
 
 mcs51_jump : IsStretch 0x0000 (0x02 ∷ high_first 0x0030)
 mcs51_jump = record { fits = omega arith; bytes_are = mcs51_jump_bytes }

@@ -2,7 +2,7 @@
 use Rattle.std.proofs.Common.{◌≡◌, ℕ, Bool, Option, None, Some, Result, Ok, Err, List, [], ◌∷◌, refl, sym, ap, ◌∙◌, subst, inl, inr, Contains}
 use Rattle.call_context.specs.declared.node.Frame.{Frame}
 use Rattle.call_context.specs.declared.node.Frame.TheVariants.{Base, Irq}
-use Rattle.call_context.specs.declared.shown.Cause.TheVariants.{Fetch}
+use Rattle.chip_analysis.specs.declared.cause.Cause.TheVariants.{Fetch}
 use Rattle.chip_numbers.specs.Single.Single.{Instr as RanOne}
 use Rattle.chip_law.specs.Laws.{IsTold}
 use Rattle.chip_flow.specs.Opens.{BreaksLimits, fetch_open}

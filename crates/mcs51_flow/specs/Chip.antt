@@ -1,21 +1,18 @@
 -- What an analysis makes of a program of the MCS-51, in sets.
-use Rattle.std.specs.Prelude.{◌≡◌, ◌<◌, ◌≤◌, ℕ, None, List, [], ◌∷◌, ◌++◌}
+use Rattle.std.specs.Prelude.{◌≡◌, ◌≤◌, ℕ, None, List, [], ◌∷◌, ◌++◌}
 use Rattle.call_context.specs.declared.node.Frame.{Frame}
 use Rattle.call_context.specs.declared.node.Frame.TheVariants.{Base}
-use Rattle.call_context.specs.declared.node.Node.{Node}
-use Rattle.call_context.specs.declared.node.Node.TheVariants.{At, Exit}
-use Rattle.call_context.specs.declared.shown.Cause.{Cause}
-use Rattle.call_context.specs.declared.shown.Cause.TheVariants.{Fetch, Targets, Store}
+use Rattle.call_context.specs.declared.node.Node.TheVariants.{At}
 use Rattle.call_context.specs.declared.shown.Item.{Item}
 use Rattle.call_context.specs.declared.shown.Set.TheVariants.{B}
 use Rattle.call_context.specs.Nodes.{frame_of}
 use Rattle.chip_analysis.specs.Analysis.{Analysis}
 use Rattle.chip_flow.specs.declared.going.Followed.{Followed}
+use Rattle.chip_flow.specs.Causes.{BreaksLimit, Causes}
 use Rattle.chip_flow.specs.Flow.{Flow}
 use Rattle.chip_flow.specs.Works.{work_of}
 use Rattle.image.specs.Kept.{IsReadUnder}
 use Rattle.image.specs.declared.rule_set.Rules.TheVariants.{Mcs51}
-use Rattle.value_set.specs.Summing.{count_of}
 use Rattle.value_set.specs.declared.form.Form.{Form}
 use Rattle.mcs51_decode.specs.declared.instr.Instr.{Instr}
 use Rattle.mcs51_decode.specs.Encoding.{bytes_of}
@@ -82,21 +79,14 @@ abbrev pub LeadsTo : Way Known → Form → Type 0
 LeadsTo (Lands targets a) values = targets ≡ values
 LeadsTo (Goes target on jumped) values = ⊥
 
--- the instruction that stands at an address has these next addresses, by what is known there, and more than are followed
-pub record HasManyTargets (setting : Setting) (pc : ℕ) (frame : Frame) (a : Known) (values : Form) : Type 0 where
-  pub instr : Instr
-  pub len : ℕ
-  pub standing : Stands setting.image pc instr len
-  pub next : LeadsTo (ran_of setting.image (is_interrupt frame) pc a instr).way values
-  pub many : setting.limits.targets < count_of 65536 values
-
--- The limit that the cause of an open names is broken at a location, by what is known there: no instruction stands there; or
--- the set is that of the instruction's next addresses, and has more than are followed. A program can't be written.
-abbrev pub BreaksLimit : Setting → Node → Known → Cause → Type 0
-BreaksLimit setting (At pc calls frame) a Fetch = (instr : Instr) (len : ℕ) → Stands setting.image pc instr len → ⊥
-BreaksLimit setting (At pc calls frame) a (Targets values) = HasManyTargets setting pc frame a values
-BreaksLimit setting (At pc calls frame) a (Store values) = ⊥
-BreaksLimit setting (Exit pc frame) a cause = ⊥
+-- what the causes of opens say: a program can't be written
+abbrev pub mcs51_causes : Setting → Causes Known Instr
+mcs51_causes setting = record {
+  Stands = Stands setting.image;
+  GoesTo = λ frame a pc instr values. LeadsTo (ran_of setting.image (is_interrupt frame) pc a instr).way values;
+  targets = setting.limits.targets;
+  Hits = λ frame a pc values. ⊥;
+}
 
 -- THE ANALYSIS
 
@@ -110,7 +100,7 @@ mcs51_analysis setting = record {
   widen = λ coarse. known_widened (stops coarse setting.image);
   top = λ node. top_known (is_interrupt (frame_of node));
   HasForm = HasChipForm;
-  Breaks = BreaksLimit setting;
+  Breaks = BreaksLimit (mcs51_causes setting);
 }
 
 -- two programs under the same limits

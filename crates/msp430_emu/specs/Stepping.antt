@@ -35,12 +35,12 @@ device_of image ram = record { image = image; ram = ram }
 
 -- the rules are those of an MSP430 with RAM
 abbrev pub IsMsp430 : Rules → Type 0
-IsMsp430 (Msp430 lo hi mirror) = HasRam (range (record { lo = lo; hi = hi; mirror = mirror }))
+IsMsp430 (Msp430 ram) = HasRam (range ram)
 IsMsp430 Mcs51 = ⊥
 
 -- the device of an image under rules; those of another chip have none
 abbrev pub device_under : Rules → List (Option ℕ) → Device
-device_under (Msp430 lo hi mirror) image = device_of image (record { lo = lo; hi = hi; mirror = mirror })
+device_under (Msp430 ram) image = device_of image ram
 device_under Mcs51 image = device_of image (record { lo = 0; hi = 0; mirror = None })
 
 -- the answer for an outcome, and the state behind it

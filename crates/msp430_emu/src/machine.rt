@@ -10,7 +10,7 @@ use crate::state::Machine;
 use crate::step::advance;
 use crate::stepped::Stepped;
 use choosing::Choices;
-use image::{Image, RamRange, Rules};
+use image::{Image, Rules};
 use msp430_chip::{ChipState, Ram, step_laws};
 use no_memory::Memory;
 use std::alloc::Global;
@@ -23,17 +23,16 @@ impl Machine {
         ensures zeros { IfOk result (λ machine. machine.state ≡ first_state (device_under rules image.now)) }
         ensures ram { IfOk result (λ machine. machine.ram ≡ (device_under rules image.now).ram) }
     {
-        let Rules::Msp430 { lo, hi, mirror } = rules else {
+        let Rules::Msp430(ram) = rules else {
             unreachable!()
         };
         let mut registers = [0; 16];
         registers[0] = even(image_word(image, 0xFFFE));
         let state = ChipState {
             registers,
-            ram: Ram::new(alloc, hi as usize + 1 - lo as usize)?,
+            ram: Ram::new(alloc, ram.hi as usize + 1 - ram.lo as usize)?,
             late: false,
         };
-        let ram = RamRange { lo, hi, mirror };
         Ok(Machine { ram, state })
     }
 

@@ -5,13 +5,14 @@ use Rattle.std.proofs.lemmas.List.Elements.{Contains-append_cases, Contains-appe
 use Rattle.call_context.specs.declared.node.Frame.{Frame}
 use Rattle.call_context.specs.declared.node.Frame.TheVariants.{Base, Irq}
 use Rattle.call_context.specs.declared.node.Node.TheVariants.{At}
-use Rattle.call_context.specs.declared.shown.Cause.{Cause}
-use Rattle.call_context.specs.declared.shown.Cause.TheVariants.{Fetch, Store, Targets}
 use Rattle.chip_numbers.specs.Single.{Single}
 use Rattle.chip_numbers.specs.Single.Single.{Instr as Ran, Edge as Went, Stack as Stood}
+use Rattle.chip_analysis.specs.declared.cause.Cause.{Cause}
+use Rattle.chip_analysis.specs.declared.cause.Cause.TheVariants.{Fetch, Store, Targets}
 use Rattle.chip_analysis.specs.declared.chip.Work.{Work}
 use Rattle.chip_law.specs.Laws.{IsTold, Tells}
 use Rattle.chip_law.specs.Outcome.Leaving.{program_written}
+use Rattle.chip_flow.specs.Causes.{BreaksLimit}
 use Rattle.chip_flow.specs.Opens.{BreaksLimits, entry_open, fetch_open, store_open as instr_open}
 use Rattle.chip_flow.specs.Standing.{Fetching, by_answer, found_by, none_found, one_found}
 use Rattle.chip_flow.specs.Standing.Fetching.{none_stands, stands}
@@ -46,7 +47,7 @@ use Rattle.msp430_entry.specs.Entry.{ComesSo, comings_of, counter_slot, entry_sh
 use Rattle.msp430_alu.specs.Memory.{IsDevice}
 use Rattle.msp430_flow.specs.Standing.{fetched}
 use Rattle.msp430_flow.specs.declared.setting.Setting.{Setting}
-use Rattle.msp430_flow.specs.Chip.{BreaksLimit, CanHit, IsProgram, followed_by, msp430_analysis, msp430_flow, onward_of, open_store, push_opens, store_of}
+use Rattle.msp430_flow.specs.Chip.{CanHit, IsProgram, followed_by, msp430_analysis, msp430_causes, msp430_flow, onward_of, open_store, push_opens, store_of}
 use Rattle.msp430_flow.specs.Machine.{leaving_of}
 use Rattle.msp430_flow.specs.Running.{may_hit, stored_width, worked}
 use Rattle.msp430_flow.specs.LawsBelow.{Laws}
@@ -273,7 +274,7 @@ slot_open device pc set open_so h =
 module _ (laws : Laws) (setting : Setting) (program : IsProgram setting.device) (pc : ℕ) (calls : List ℕ) (frame : Frame) (a : Known) where
   -- an open is at an address, and breaks its limit there
   abbrev Breaking : ℕ × Cause → Type 0
-  Breaking open_so = (pc ≡ open_so.0) × BreaksLimit setting (At pc calls frame) a open_so.1
+  Breaking open_so = (pc ≡ open_so.0) × BreaksLimit (msp430_causes setting) (At pc calls frame) a open_so.1
 
   push_breaks : IsKnown setting.device.ram.lo setting.device.ram.hi (is_interrupt frame) a
       → (coming_so : Coming) (open_so : ℕ × Cause) → Contains (comings_of setting.device a) coming_so
@@ -294,16 +295,16 @@ module _ (laws : Laws) (setting : Setting) (program : IsProgram setting.device) 
   store_breaks : (instr_so : Instr) → fetched setting.device.image pc ≡ Some instr_so → pc % 2 ≡ 0 → (cause : Cause) (store : Option Form)
       → (worked setting.device (is_interrupt frame) a pc instr_so).store ≡ store
       → store_of setting.device (stored_width instr_so) store ≡ Some cause
-      → BreaksLimit setting (At pc calls frame) a cause
+      → BreaksLimit (msp430_causes setting) (At pc calls frame) a cause
   store_breaks instr_so found even cause None stores is = absurd (cc)
   store_breaks instr_so found even cause (Some set) stores is =
       let (len, standing) = standing_of laws setting.device program pc instr_so (fetched setting.device.image pc) found (fetching_at setting.device.image pc even) in
       let (same, can) = opens_can setting.device (stored_width instr_so) set cause is in
-      subst (BreaksLimit setting (At pc calls frame) a) (sym same) (inl (record { instr = instr_so; len = len; standing = standing; stores = stores; can = can }))
+      subst (BreaksLimit (msp430_causes setting) (At pc calls frame) a) (sym same) (inl (record { instr = instr_so; len = len; standing = standing; stores = stores; can = can }))
 
   targets_break : (instr_so : Instr) → fetched setting.device.image pc ≡ Some instr_so → pc % 2 ≡ 0 → (values : Form)
       → onward_of setting frame a pc instr_so (worked setting.device (is_interrupt frame) a pc instr_so) ≡ onward.Open values
-      → BreaksLimit setting (At pc calls frame) a (Targets values)
+      → BreaksLimit (msp430_causes setting) (At pc calls frame) a (Targets values)
   targets_break instr_so found even values is =
       let (len, standing) = standing_of laws setting.device program pc instr_so (fetched setting.device.image pc) found (fetching_at setting.device.image pc even) in
       let (next, many) = open_of setting frame a pc instr_so (worked setting.device (is_interrupt frame) a pc instr_so) values is in

@@ -2,22 +2,21 @@
 use Rattle.std.specs.Prelude.{◌≡◌, ◌<◌, ◌≤◌, ◌⊎◌, ℕ, if◌then◌else◌, true, Option, None, Some, List, [], ◌++◌, Contains}
 use Rattle.call_context.specs.declared.node.Frame.{Frame}
 use Rattle.call_context.specs.declared.node.Frame.TheVariants.{Base}
-use Rattle.call_context.specs.declared.node.Node.{Node}
-use Rattle.call_context.specs.declared.node.Node.TheVariants.{At, Exit}
-use Rattle.call_context.specs.declared.shown.Cause.{Cause}
-use Rattle.call_context.specs.declared.shown.Cause.TheVariants.{Fetch, Targets, Store}
+use Rattle.call_context.specs.declared.node.Node.TheVariants.{At}
 use Rattle.call_context.specs.declared.shown.Set.TheVariants.{W}
 use Rattle.call_context.specs.Nodes.{frame_of}
+use Rattle.chip_analysis.specs.declared.cause.Cause.{Cause}
+use Rattle.chip_analysis.specs.declared.cause.Cause.TheVariants.{Store}
 use Rattle.chip_analysis.specs.Analysis.{Analysis}
 use Rattle.chip_flow.specs.declared.going.Followed.{Followed}
 use Rattle.chip_flow.specs.declared.going.Onward.{Onward}
 use Rattle.chip_flow.specs.declared.going.Onward.TheVariants.{Leaves}
+use Rattle.chip_flow.specs.Causes.{BreaksLimit, Causes}
 use Rattle.chip_flow.specs.Flow.{Flow}
 use Rattle.chip_flow.specs.Works.{store_opens, work_of}
 use Rattle.image.specs.Kept.{IsRamRange, IsReadUnder}
 use Rattle.image.specs.declared.rule_set.Rules.TheVariants.{Msp430}
 use Rattle.value_set.specs.Form.{Has}
-use Rattle.value_set.specs.Summing.{count_of}
 use Rattle.value_set.specs.declared.form.Form.{Form}
 use Rattle.msp430_decode.specs.declared.instr.Instr.{Instr}
 use Rattle.msp430_decode.specs.declared.instr.Width.{Width}
@@ -91,8 +90,8 @@ msp430_flow setting = record {
 
 -- a device whose image was read under the rules of the chip with this RAM
 pub record IsProgram (device : Device) : Type 0 where
-  pub read : IsReadUnder (Msp430 device.ram.lo device.ram.hi device.ram.mirror) device.image
-  pub ram : IsRamRange (Msp430 device.ram.lo device.ram.hi device.ram.mirror)
+  pub read : IsReadUnder (Msp430 device.ram) device.image
+  pub ram : IsRamRange (Msp430 device.ram)
   pub top : device.ram.hi < 65536
 
 -- with call strings of at most eight sites
@@ -125,23 +124,14 @@ pub record InterruptHits (device : Device) (a : Known) (values : Form) : Type 0 
   pub pushed : (values ≡ counter_slot device coming.sp) ⊎ (values ≡ status_slot device coming.sp)
   pub can : CanHit device Word values
 
--- the instruction that stands at an address has these next addresses, by what is known there, and more than are followed
-pub record HasManyTargets (setting : Setting) (pc : ℕ) (frame : Frame) (a : Known) (values : Form) : Type 0 where
-  pub instr : Instr
-  pub len : ℕ
-  pub standing : Stands setting.device.image pc instr len
-  pub next : (worked setting.device (is_interrupt frame) a pc instr).next ≡ values
-  pub many : setting.limits.targets < count_of 65536 values
-
--- The limit that the cause of an open names is broken at a location, by what is known there: no instruction stands there; or
--- the set is where the instruction stores, or where an interrupt's entry does, and such a store would write a byte of the
--- program; or the set is that of the instruction's next addresses, and has more than are followed.
-abbrev pub BreaksLimit : Setting → Node → Known → Cause → Type 0
-BreaksLimit setting (At pc calls frame) a Fetch = (instr : Instr) (len : ℕ) → Stands setting.device.image pc instr len → ⊥
-BreaksLimit setting (At pc calls frame) a (Store values) =
-    InstructionHits setting.device pc frame a values ⊎ InterruptHits setting.device a values
-BreaksLimit setting (At pc calls frame) a (Targets values) = HasManyTargets setting pc frame a values
-BreaksLimit setting (Exit pc frame) a cause = ⊥
+-- what the causes of opens say: a store is the instruction's, or an interrupt's
+abbrev pub msp430_causes : Setting → Causes Known Instr
+msp430_causes setting = record {
+  Stands = Stands setting.device.image;
+  GoesTo = λ frame a pc instr values. (worked setting.device (is_interrupt frame) a pc instr).next ≡ values;
+  targets = setting.limits.targets;
+  Hits = λ frame a pc values. InstructionHits setting.device pc frame a values ⊎ InterruptHits setting.device a values;
+}
 
 -- THE ANALYSIS
 
@@ -155,7 +145,7 @@ msp430_analysis setting = record {
   widen = λ coarse. known_widened (stops coarse setting.device);
   top = λ node. top_known setting.device.ram.lo setting.device.ram.hi (is_interrupt (frame_of node));
   HasForm = HasChipForm setting.device.ram.lo setting.device.ram.hi;
-  Breaks = BreaksLimit setting;
+  Breaks = BreaksLimit (msp430_causes setting);
 }
 
 -- two programs with the same RAM under the same limits

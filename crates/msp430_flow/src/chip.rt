@@ -50,22 +50,19 @@ impl Model for Msp430Chip {
 }
 
 impl Msp430Chip {
-    /// The chip with this program, which was read under its rules, with RAM between these addresses, its mirror, call
-    /// strings of so many sites, and so many targets of an instruction that are followed.
+    /// The chip with this program, which was read under its rules, with this RAM, call strings of so many sites, and so many
+    /// targets of an instruction that are followed.
     pub fn new(
         alloc: Global,
         image: Image,
-        lo: u16,
-        hi: u16,
-        mirror: Option<(u16, u16)>,
+        ram: RamRange,
         limits: Limits,
     ) -> Result<Msp430Chip, Memory>
-        requires read { IsReadUnder (Rules.Msp430 lo hi mirror) image }
-        requires ram { IsRamRange (Rules.Msp430 lo hi mirror) }
+        requires read { IsReadUnder (Rules.Msp430 ram) image }
+        requires ram { IsRamRange (Rules.Msp430 ram) }
         requires calls { limits.calls ≤ 8 }
-        ensures { IfOk result (λ chip. chip ≡ record { device = record { image = image; ram = record { lo = lo; hi = hi; mirror = mirror } }; limits = limits }) }
+        ensures { IfOk result (λ chip. chip ≡ record { device = record { image = image; ram = ram }; limits = limits }) }
     {
-        let ram = RamRange { lo, hi, mirror };
         let device = Device { image, ram };
         let marks = marks_of(alloc, &device)?;
         let setting = Setting { device, limits };
@@ -93,16 +90,16 @@ impl Msp430Chip {
     fn reset(&self) -> u16
         ensures { result ≡ reset_address self.now.device }
     {
-        match (
-            self.setting.device.image.byte(0xFFFE),
-            self.setting.device.image.byte(0xFFFF),
-        ) {
-            (Some(low), Some(high)) => {
-                let word = low as u16 + 256 * high as u16;
-                word - word % 2
-            }
-            _ => 0,
-        }
+        self.keeps_rules();
+        let image = &self.setting.device.image;
+        let Some(low) = image.byte(0xFFFE) else {
+            unreachable!()
+        };
+        let Some(high) = image.byte(0xFFFF) else {
+            unreachable!()
+        };
+        let word = low as u16 + 256 * high as u16;
+        word - word % 2
     }
 
     /// The instruction at an address, if one stands there.
@@ -156,8 +153,7 @@ impl Chip for Msp430Chip {
     ghost analysis = { msp430_analysis };
 
     fn start(&self, alloc: Global) -> Result<(Node, Kept), Memory> {
-        let ram = self.ram();
-        let first = State::first(alloc, ram.lo, ram.hi)?;
+        let first = State::first(alloc, self.ram())?;
         Ok((start_node(self.reset()), Kept::new(alloc, first)?))
     }
 
@@ -185,8 +181,8 @@ impl Chip for Msp430Chip {
     }
 
     fn top(&self, alloc: Global, node: &Node) -> Result<Kept, Memory> {
-        let ram = self.ram();
-        Kept::new(alloc, State::top(alloc, frame_of(node), ram.lo, ram.hi)?)
+        let top = State::top(alloc, frame_of(node), self.ram())?;
+        Kept::new(alloc, top)
     }
 
     fn within(&self, new: &Kept, held: &Kept) -> bool {

@@ -5,7 +5,8 @@ ghost use Rattle.msp430_chip.specs.Memory.{HasRam};
 ghost use Rattle.msp430_flow.specs.Chip as chip;
 
 use crate::meeting::may_hit;
-use call_context::{Cause, Sequence};
+use call_context::Sequence;
+use chip_analysis::Cause;
 use chip_flow::add_open;
 use msp430_chip::Device;
 use msp430_decode::Width;

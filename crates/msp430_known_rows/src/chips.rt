@@ -15,7 +15,7 @@ use std::alloc::{AllocError, Global};
 
 /// Where RAM stands, by the range of a mirror, if a row has one.
 fn ram_of(mirror: &str) -> Option<RamRange>
-    ensures { IfSome result (λ ram. IsRamRange (Rules.Msp430 ram.lo ram.hi ram.mirror)) }
+    ensures { IfSome result (λ ram. IsRamRange (Rules.Msp430 ram)) }
 {
     match range_of(mirror) {
         Some(mirror) => RamRange::new(0x1100, 0x38FF, Some(mirror)),
@@ -66,7 +66,6 @@ pub fn chip_of(alloc: Global, row: &CodeRow, mirror: &str) -> Result<Option<Msp4
     let Some(image) = image_of(alloc, ram.rules(), text.as_str())? else {
         return Ok(None);
     };
-    let RamRange { lo, hi, mirror } = ram;
-    let chip = Msp430Chip::new(alloc, image, lo, hi, mirror, Limits::USUAL)?;
+    let chip = Msp430Chip::new(alloc, image, ram, Limits::USUAL)?;
     Ok(Some(chip))
 }

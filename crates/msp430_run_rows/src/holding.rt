@@ -8,7 +8,7 @@ use crate::refusing::{is_refusal, is_refused};
 use arrayvec::ArrayVec;
 use call_context::Item;
 use hex_digits::{bytes, word};
-use image::{Image, Rules};
+use image::{Image, RamRange, Rules};
 use msp430_emu::{Choices, Machine, Stepped};
 use std::alloc::{AllocError, Global};
 
@@ -156,11 +156,11 @@ fn row_holds(
     steps: u8,
     end: &str,
 ) -> Result<bool, AllocError> {
-    let rules = Rules::Msp430 {
+    let rules = Rules::Msp430(RamRange {
         lo: LO,
         hi: HI,
         mirror: Some(MIRROR),
-    };
+    });
     let Ok(mut machine) = Machine::reset(alloc, image, rules) else {
         return Err(AllocError);
     };

@@ -9,6 +9,7 @@ use crate::status::Status;
 use crate::words::{are_within, copy_all, join_all, unknown, widen_all};
 use call_context::Frame;
 use entry_value::{Cells, Word};
+use image::RamRange;
 use irq_frames::Ranges;
 use known_parts::{common_bit, is_bit_within};
 use no_memory::Memory;
@@ -66,13 +67,13 @@ fn range(alloc: Global, lo: u16, hi: u16) -> Result<Ranges, Memory>
 }
 
 /// All RAM in an interrupt's frame, else nothing.
-fn all_touched(alloc: Global, frame: &Frame, lo: u16, hi: u16) -> Result<Ranges, Memory>
-    requires { lo ≤ hi }
-    ensures { IfOk result (λ touched. touched ≡ known.all_touched (known.is_interrupt frame.now) lo hi) }
+fn all_touched(alloc: Global, frame: &Frame, ram: RamRange) -> Result<Ranges, Memory>
+    requires { ram.lo ≤ ram.hi }
+    ensures { IfOk result (λ touched. touched ≡ known.all_touched (known.is_interrupt frame.now) ram.lo ram.hi) }
 {
     match frame {
         Frame::Base => Ok(Ranges::new(alloc)),
-        Frame::Irq { .. } => range(alloc, lo, hi),
+        Frame::Irq { .. } => range(alloc, ram.lo, ram.hi),
     }
 }
 
@@ -81,12 +82,11 @@ impl<M: Cells> State<M> {
     fn of_bit(
         alloc: Global,
         bit: Tri,
-        lo: u16,
-        hi: u16,
+        ram: RamRange,
         touched: Ranges,
     ) -> Result<State<M>, Memory>
-        requires { lo ≤ hi }
-        ensures { IfOk result (λ state. state ≡ known.known_of bit lo hi touched) }
+        requires { ram.lo ≤ ram.hi }
+        ensures { IfOk result (λ state. state ≡ known.known_of bit ram.lo ram.hi touched) }
     {
         Ok(State {
             sp: even_words(),
@@ -94,31 +94,26 @@ impl<M: Cells> State<M> {
             late: bit,
             registers: [unknown(); 12],
             fact: None,
-            cells: M::empty(alloc, lo, hi)?,
+            cells: M::empty(alloc, ram.lo, ram.hi)?,
             touched,
         })
     }
 
-    /// What is known behind a reset, of a device with RAM from one address to another.
-    pub fn first(alloc: Global, lo: u16, hi: u16) -> Result<State<M>, Memory>
-        requires { lo ≤ hi }
-        ensures { IfOk result (λ first. first ≡ known.first_known lo hi) }
+    /// What is known behind a reset, of a device with this RAM.
+    pub fn first(alloc: Global, ram: RamRange) -> Result<State<M>, Memory>
+        requires { ram.lo ≤ ram.hi }
+        ensures { IfOk result (λ first. first ≡ known.first_known ram.lo ram.hi) }
     {
-        State::of_bit(alloc, Tri::Zero, lo, hi, Ranges::new(alloc))
+        State::of_bit(alloc, Tri::Zero, ram, Ranges::new(alloc))
     }
 
     /// What is known of every state in a frame.
-    pub fn top(alloc: Global, frame: &Frame, lo: u16, hi: u16) -> Result<State<M>, Memory>
-        requires { lo ≤ hi }
-        ensures { IfOk result (λ top. top ≡ known.top_known lo hi (known.is_interrupt frame.now)) }
+    pub fn top(alloc: Global, frame: &Frame, ram: RamRange) -> Result<State<M>, Memory>
+        requires { ram.lo ≤ ram.hi }
+        ensures { IfOk result (λ top. top ≡ known.top_known ram.lo ram.hi (known.is_interrupt frame.now)) }
     {
-        State::of_bit(
-            alloc,
-            Tri::Either,
-            lo,
-            hi,
-            all_touched(alloc, frame, lo, hi)?,
-        )
+        let touched = all_touched(alloc, frame, ram)?;
+        State::of_bit(alloc, Tri::Either, ram, touched)
     }
 
     /// An equal state.

@@ -9,9 +9,10 @@ use Rattle.std.specs.declared.cmp.Ordering.TheVariants.{Less, Equal, Greater}
 use Rattle.std.proofs.lemmas.List.Elements.{Contains-append_left}
 use Rattle.std.proofs.lemmas.Map.Lookups.{exact_bytes}
 use Rattle.call_context.specs.declared.shown.Item.{Item}
-use Rattle.item_lines.specs.Line.{item_line_of, open_line_of}
+use Rattle.item_lines.specs.Line.{item_line_of}
 use Rattle.item_lines.specs.Shown.{EndsLine, HasLine}
 use Rattle.chip_analysis.specs.declared.chip.Work.{Work}
+use Rattle.report_bytes.specs.Opens.{open_line_of}
 use Rattle.report_bytes.specs.declared.deepest.Deepest.{Deepest}
 use Rattle.report_bytes.specs.Deepest.{deepest_of}
 use Rattle.report_bytes.specs.Report.{with_lines, lines_of, head_line, summary_of, report_text, report_of, are_closed}

@@ -7,11 +7,11 @@ use Rattle.std.proofs.lemmas.List.Elements.{Contains-append_right}
 use Rattle.std.proofs.lemmas.Map.Made.{Contains-values_of}
 use Rattle.call_context.specs.declared.node.Node.{Node}
 use Rattle.call_context.specs.declared.node.Unit.{Unit as WorkUnit}
-use Rattle.call_context.specs.declared.shown.Cause.{Cause}
+use Rattle.chip_analysis.specs.declared.cause.Cause.{Cause}
 use Rattle.chip_analysis.specs.Analysis.{Analysis}
 use Rattle.chip_analysis.specs.Table.{IsUnitOver}
 use Rattle.chip_analysis.specs.declared.chip.Work.{Work}
-use Rattle.item_lines.specs.Line.{item_line_of, open_line_of}
+use Rattle.item_lines.specs.Line.{item_line_of}
 use Rattle.item_lines.specs.Shown.{HasLine}
 use Rattle.closed_book.specs.BookFacts.{AreListed}
 use Rattle.closed_book.specs.ClosedBook.{IsClosedBook, table_in}
@@ -20,6 +20,7 @@ use Rattle.round_core.specs.Table.{table_of}
 use Rattle.round_core.specs.declared.event.Event.{Event}
 use Rattle.plain_lemmas.specs.Members.{in_flat_map, in_map}
 use Rattle.report_bytes.specs.Deepest.{deepest_of}
+use Rattle.report_bytes.specs.Opens.{open_line_of}
 use Rattle.report_bytes.specs.Report.{are_closed, lines_of, with_lines, head_line, summary_of, report_text, report_of, last_works, report_of_journal, closed_report}
 use Rattle.report_bytes.specs.Shows.{Says, ShowsTable, ShowsWorks}
 use Rattle.report_bytes.proofs.ShownLemmas.{in_with_lines_new, report_has, report_has_item}

@@ -1,7 +1,7 @@
 -- Works that are closed, and that leave no site open, are the same: lemmas, also for the proofs of crates above.
 use Rattle.std.proofs.Common.{◌≡◌, true, List, [], ◌∷◌, refl, ap, subst, ◌∙◌, inl, inr}
 use Rattle.std.specs.Prelude.{ℕ, ◌&&◌}
-use Rattle.call_context.specs.declared.shown.Cause.{Cause}
+use Rattle.chip_analysis.specs.declared.cause.Cause.{Cause}
 use Rattle.chip_analysis.specs.declared.chip.Work.{Work}
 use Rattle.closed_book.specs.ClosedBook.{NoneIsOpen}
 use Rattle.plain_lemmas.specs.Cases.{both}

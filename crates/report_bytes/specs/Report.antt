@@ -9,14 +9,15 @@ use Rattle.std.specs.BTreeSet.{insert_key}
 use Rattle.std.specs.declared.alloc.Global.{Global}
 use Rattle.std.specs.declared.vec.Vec.{Vec}
 use Rattle.call_context.specs.declared.node.Unit.{Unit as WorkUnit}
-use Rattle.call_context.specs.declared.shown.Cause.{Cause}
 use Rattle.call_context.specs.declared.shown.Item.{Item}
+use Rattle.chip_analysis.specs.declared.cause.Cause.{Cause}
 use Rattle.chip_analysis.specs.Analysis.{Analysis}
 use Rattle.chip_analysis.specs.declared.chip.Work.{Work}
-use Rattle.item_lines.specs.Line.{item_line_of, open_line_of}
+use Rattle.item_lines.specs.Line.{item_line_of}
 use Rattle.round_core.specs.Kept.{live_works}
 use Rattle.round_core.specs.declared.event.Event.{Event}
 use Rattle.round_core.specs.Machine.{BookState, IsFinished, replay}
+use Rattle.report_bytes.specs.Opens.{open_line_of}
 use Rattle.report_bytes.specs.declared.deepest.Deepest.{Deepest}
 use Rattle.report_bytes.specs.declared.lines.Counts.{Counts}
 use Rattle.report_bytes.specs.Deepest.{deepest_of, deepest_text}

@@ -2,13 +2,14 @@
 use Rattle.std.specs.Prelude.{◌≡◌, ℕ, Option, List, ◌++◌, Contains}
 use Rattle.call_context.specs.declared.node.Node.{Node}
 use Rattle.call_context.specs.declared.node.Unit.{Unit as WorkUnit}
-use Rattle.call_context.specs.declared.shown.Cause.{Cause}
 use Rattle.call_context.specs.declared.shown.Item.{Item}
+use Rattle.chip_analysis.specs.declared.cause.Cause.{Cause}
 use Rattle.chip_analysis.specs.Analysis.{Analysis}
 use Rattle.chip_analysis.specs.Table.{IsUnitOver}
 use Rattle.chip_analysis.specs.declared.chip.Work.{Work}
-use Rattle.item_lines.specs.Line.{item_line_of, open_line_of}
+use Rattle.item_lines.specs.Line.{item_line_of}
 use Rattle.item_lines.specs.Shown.{HasLine}
+use Rattle.report_bytes.specs.Opens.{open_line_of}
 use Rattle.report_bytes.specs.Report.{are_closed, head_line}
 
 -- the report begins with this text

@@ -2,21 +2,23 @@
 
 ghost use Rattle.std.specs.Prelude.{◌≡◌, ◌++◌, ◌&&◌, if◌then◌else◌, true, [], None, map, IfOk, OnOk};
 ghost use Rattle.closed_book.specs.ClosedBook.{table_in};
+ghost use Rattle.report_bytes.specs.Opens.{open_line_of};
 ghost use Rattle.report_bytes.specs.Shows.{ShowsTable};
 ghost use Rattle.round_core.specs.Kept.{live_works};
 ghost use Rattle.round_core.specs.Machine.{replay};
 ghost use Rattle.report_bytes.specs.Deepest.{deepest_of as the_deepest_of, deepest_text};
 ghost use Rattle.report_bytes.specs.Report.{with_lines, lines_of, reported_lines, items_of, is_empty, are_closed, report_text, closed_report, counts_of, head_line as the_head_line, summary_line, IsReportOf};
 ghost use Rattle.std.specs.Map.{values_of};
-ghost use Rattle.item_lines.specs.Line.{item_line_of, open_line_of};
+ghost use Rattle.item_lines.specs.Line.{item_line_of};
 
 use crate::deepest::{Deepest, deepest_of};
 use crate::lines::{Counts, Lines};
-use call_context::{Cause, Item, Unit};
-use chip_analysis::{Chip, OrderlyChip, Work};
+use crate::opens::open_line;
+use call_context::{Item, Unit};
+use chip_analysis::{Cause, Chip, OrderlyChip, Work};
 use closed_book::ClosedBook;
 use hex_digits::{hex_byte, hex_word};
-use item_lines::{InstrText, item_line, open_line};
+use item_lines::{InstrText, item_line};
 use no_memory::Memory;
 use round_core::Book;
 use std::alloc::{AllocError, Global};

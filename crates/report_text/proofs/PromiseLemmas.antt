@@ -1,7 +1,7 @@
 -- The report of a book without opens covers every run, and that of another one shows its open sites.
 use Rattle.std.proofs.Common.{◌≡◌, ℕ, true, false, List, [], ◌∷◌, refl, sym, ap, subst, ◌∙◌}
 use Rattle.std.specs.Prelude.{Contains, ◌&&◌}
-use Rattle.call_context.specs.declared.shown.Cause.{Cause}
+use Rattle.chip_analysis.specs.declared.cause.Cause.{Cause}
 use Rattle.chip_analysis.specs.Analysis.{Analysis}
 use Rattle.chip_analysis.specs.declared.chip.Work.{Work}
 use Rattle.chip_law.specs.Machine.{Machine}

@@ -1,16 +1,16 @@
 -- What a report says of every run of the chip.
 use Rattle.std.specs.Prelude.{ℕ, List, Contains, codes}
-use Rattle.call_context.specs.declared.shown.Cause.{Cause}
 use Rattle.chip_numbers.specs.Single.{Single}
+use Rattle.chip_analysis.specs.declared.cause.Cause.{Cause}
 use Rattle.chip_analysis.specs.Analysis.{Analysis}
 use Rattle.chip_analysis.specs.declared.chip.Work.{Work}
-use Rattle.item_lines.specs.Line.{open_line_of}
 use Rattle.chip_law.specs.Machine.{Machine}
 use Rattle.chip_law.specs.Runs.{Meets, GoesWild}
 use Rattle.item_lines.specs.Shown.{HasLine, IsShownIn}
 use Rattle.closed_book.specs.Broken.{IsBroken}
 use Rattle.round_core.specs.Machine.{replay}
 use Rattle.round_core.specs.declared.event.Event.{Event}
+use Rattle.report_bytes.specs.Opens.{open_line_of}
 use Rattle.report_bytes.specs.Report.{last_works}
 use Rattle.report_bytes.specs.Shows.{Says}
 

@@ -29,7 +29,7 @@ pub fn msp430_asks(
     ram: RamRange,
     script: &[u16],
 ) -> Result<Option<Asked>, Memory>
-    requires { IsMsp430 (Msp430 ram.lo ram.hi ram.mirror) }
+    requires { IsMsp430 (Msp430 ram) }
 {
     let mut machine = Machine::reset(alloc, image, ram.rules())?;
     let mut choices = Choices::new(Vec::from_slice(alloc, script)?);

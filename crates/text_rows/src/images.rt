@@ -5,7 +5,7 @@ ghost use Rattle.image.specs.Kept.{IsRamRange};
 
 use crate::numbers::halves;
 use ihex_read::{HexError, MOST_BYTES, Reader, Tail};
-use image::{Image, Rules};
+use image::{Image, RamRange, Rules};
 use no_memory::Memory;
 use std::alloc::{AllocError, Global};
 
@@ -18,16 +18,16 @@ fn rules_of(chip: &str) -> Rules
 {
     match chip {
         "mcs51" => Rules::Mcs51,
-        "mirrored" => Rules::Msp430 {
-            mirror: Some((0x0200, 0x09FF)),
+        "mirrored" => Rules::Msp430(RamRange {
             lo: 0x1100,
             hi: 0x38FF,
-        },
-        _ => Rules::Msp430 {
-            mirror: None,
+            mirror: Some((0x0200, 0x09FF)),
+        }),
+        _ => Rules::Msp430(RamRange {
             lo: 0x0200,
             hi: 0x09FF,
-        },
+            mirror: None,
+        }),
     }
 }
 

@@ -4,10 +4,10 @@ ghost use Rattle.std.specs.Prelude.{◌≡◌, ◌≤◌, []};
 
 use crate::numbers::{halves, push_bytes, push_words, run_of, word_of};
 use arrayvec::ArrayString;
-use call_context::{Calls, Cause, Few, InstrBytes, Item, Sequence, Set, pop_call, push_call};
+use call_context::{Calls, Few, InstrBytes, Item, Sequence, Set, pop_call, push_call};
 use choosing::{Choices, Unused};
 use hex_digits::{byte, hex_byte, hex_word, push_byte, push_word, word};
-use item_lines::{InstrText, item_line, put_open};
+use item_lines::{InstrText, item_line};
 use no_memory::Memory;
 use std::alloc::{AllocError, Global};
 use value_set::{Vs8, Vs16};
@@ -29,13 +29,6 @@ fn push_line(alloc: Global, out: &mut String, set: Option<Set>) -> Result<(), Me
         return Ok(());
     };
     let line = item_line(alloc, &Silent, &Item::Stack { pc: 0xF000, at })?;
-    Ok(push_bytes(out, line.as_slice())?)
-}
-
-/// Adds the line of an open.
-fn push_open(alloc: Global, out: &mut String, pc: &str, cause: Cause) -> Result<(), Memory> {
-    let mut line = Vec::new(alloc);
-    put_open(word_of(pc), &cause, &mut line)?;
     Ok(push_bytes(out, line.as_slice())?)
 }
 
@@ -202,15 +195,12 @@ fn push_instr(out: &mut String, item: &Item) -> Result<(), AllocError> {
 /// Adds a line of a report.
 fn push_shown(alloc: Global, out: &mut String, kind: &str, asked: &str) -> Result<(), Memory> {
     let (base, stride, count) = run_of(asked);
-    let (front, rest) = halves(asked);
     match kind {
         "run" => push_line(alloc, out, Vs16::run(base, stride, count).map(Set::W)),
-        "octets" => {
+        _ => {
             let (base, stride) = ((base % 256) as u8, (stride % 256) as u8);
             push_line(alloc, out, Vs8::run(base, stride, count).map(Set::B))
         }
-        "targets" => push_open(alloc, out, front, Cause::Targets(Vs16::one(word_of(rest)))),
-        _ => push_open(alloc, out, front, Cause::Store(Vs16::any())),
     }
 }
 
@@ -232,7 +222,7 @@ fn push_plain(alloc: Global, out: &mut String, kind: &str, asked: &str) -> Resul
 /// Adds the answer to what a row asks.
 pub fn push_list(alloc: Global, out: &mut String, kind: &str, asked: &str) -> Result<(), Memory> {
     match kind {
-        "run" | "octets" | "targets" | "store" => push_shown(alloc, out, kind, asked),
+        "run" | "octets" => push_shown(alloc, out, kind, asked),
         "sequence" => push_sequence(alloc, out, asked),
         _ => Ok(push_plain(alloc, out, kind, asked)?),
     }

@@ -18,8 +18,7 @@
 //!   written where a write fails. `counted COUNT`: the same of numbers as parts. `whole TEXT`: the same of a text of bytes.
 //! - `reads PIECE CALLS TEXT`: what reads of a source in memory give, so many bytes each, and `writes PIECE ROOM CALLS TEXT|..`:
 //!   what a sink says of each text, and what it holds. Behind `!` it is one write. These calls fail; at `-` the stream is clean.
-//! - `run BASE STRIDE COUNT` and `octets BASE STRIDE COUNT`: a set, as a line of a report has it. `targets PC AT` and `store PC`:
-//!   an open.
+//! - `run BASE STRIDE COUNT` and `octets BASE STRIDE COUNT`: a set, as a line of a report has it.
 //! - `each SITE,..`, `ways BASE STRIDE COUNT` and `either BEHIND TARGET`: ways from F000h to a set of addresses, and of a jump
 //!   that goes on with 1 and jumps with 2.
 //! - `call KEPT SITE SITE,..` and `return END TARGET SITE,..`: the call string behind them.

@@ -4,11 +4,12 @@ ghost use Rattle.std.specs.Prelude.{◌≡◌, ◌++◌, ◌∷◌, [], OnOk};
 ghost use Rattle.unit_ways.specs.Targets.{targets_of};
 ghost use Rattle.unit_ways.specs.Ways as the_ways;
 ghost use Rattle.unit_ways.specs.Ways.{each_way, edges_of, posts_of, ways_of, ways_to};
-ghost use Rattle.call_context.specs.declared.shown.Cause.TheVariants as causes;
+ghost use Rattle.chip_analysis.specs.declared.cause.Cause.TheVariants as causes;
 
 use crate::site::Site;
 use crate::targets::{last_place, target, turn};
-use call_context::{Cause, Frame, Item, Node, Sequence};
+use call_context::{Frame, Item, Node, Sequence};
+use chip_analysis::Cause;
 use no_memory::Memory;
 use std::alloc::Global;
 use value_set::Vs16;

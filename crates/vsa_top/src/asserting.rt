@@ -172,7 +172,7 @@ fn image_decision<R: Threads + Wait + Sync, G: Gate + Sync>(
 {
     match task.target {
         Target::Msp430 { ram } => {
-            let chip = Msp430Chip::new(alloc, image, ram.lo, ram.hi, ram.mirror, task.limits)?;
+            let chip = Msp430Chip::new(alloc, image, ram, task.limits)?;
             chip_decision(rt, alloc, &chip, task.workers, list, gate)
         }
         Target::Mcs51 => {

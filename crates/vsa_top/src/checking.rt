@@ -84,7 +84,7 @@ pub fn check_reply<S: Source>(
 {
     match task.target {
         Target::Msp430 { ram } => {
-            let chip = Msp430Chip::new(alloc, image, ram.lo, ram.hi, ram.mirror, task.limits)?;
+            let chip = Msp430Chip::new(alloc, image, ram, task.limits)?;
             verdict_reply(alloc, &chip, begun, source)
         }
         Target::Mcs51 => {

@@ -348,7 +348,7 @@ fn analysis_reply<R: Threads + Wait + Sync, G: Gate + Sync>(
 {
     match task.target {
         Target::Msp430 { ram } => {
-            let chip = Msp430Chip::new(alloc, image, ram.lo, ram.hi, ram.mirror, task.limits)?;
+            let chip = Msp430Chip::new(alloc, image, ram, task.limits)?;
             chip_reply(rt, alloc, &chip, task.workers, task.cert, gate)
         }
         Target::Mcs51 => {

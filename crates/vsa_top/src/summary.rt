@@ -131,7 +131,7 @@ fn image_summary<G: Gate>(
 {
     match task.target {
         Target::Msp430 { ram } => {
-            let program = Msp430Chip::new(alloc, image, ram.lo, ram.hi, ram.mirror, task.limits)?;
+            let program = Msp430Chip::new(alloc, image, ram, task.limits)?;
             chip_summary(alloc, &program, chip, number, gate)
         }
         Target::Mcs51 => {

@@ -43,7 +43,7 @@ target_of (Run target steps) = target
 target_of (Gen chip number) = usual_target chip
 
 abbrev pub target_rules : Target → Rules
-target_rules (Msp430 ram) = rules.Msp430 ram.lo ram.hi ram.mirror
+target_rules (Msp430 ram) = rules.Msp430 ram
 target_rules Mcs51 = rules.Mcs51
 
 -- the rules of an image under a reading
@@ -61,7 +61,7 @@ tail_of (Gen chip number) = Blank
 
 -- RAM ends in memory
 abbrev pub EndsInMemory : Rules → Type 0
-EndsInMemory (rules.Msp430 lo hi mirror) = hi < 65536
+EndsInMemory (rules.Msp430 ram) = ram.hi < 65536
 EndsInMemory rules.Mcs51 = Unit {0}
 
 -- call strings of six sites, and 64 targets of an instruction

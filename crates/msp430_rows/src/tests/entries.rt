@@ -3,7 +3,9 @@
 ghost use Rattle.std.specs.Prelude.{◌≡◌};
 ghost use Rattle.msp430_chip.specs.Memory.{HasRam};
 
-use super::given::{are_equal, device, from, mirrored_device, number, one, related, run, two};
+use super::given::{
+    MIRRORED_RAM, RAM, are_equal, device, from, mirrored_device, number, one, related, run, two,
+};
 use abs_memory::CellList;
 use call_context::{Frame, Item, Sequence, Set, Space};
 use entry_value::Cells;
@@ -19,7 +21,7 @@ use value_set::Vs16;
 
 /// GIE and SCG0 are 1, the other bits of SR 0; R5 is 3, and a word of RAM is one that R6 was.
 fn state(alloc: Global) -> Result<State<CellList>, Fail> {
-    let mut state: State<CellList> = State::first(alloc, 0x0200, 0x02FF)?;
+    let mut state: State<CellList> = State::first(alloc, RAM)?;
     state.status.bits[3] = Tri::One;
     state.status.bits[6] = Tri::One;
     state.registers[1] = number(3);
@@ -198,7 +200,7 @@ fn what_entries_show(rt: HostRuntime) -> Result<(), Fail> {
 /// What the handler of an interrupt at F000h begins with, where SP is behind the mirror's second word.
 fn mirrored_state(alloc: Global) -> Result<State<CellList>, Fail> {
     let device = mirrored_device(alloc)?;
-    let state: State<CellList> = State::first(alloc, 0x1100, 0x38FF)?;
+    let state: State<CellList> = State::first(alloc, MIRRORED_RAM)?;
     Ok(entered(alloc, &device, &state, 0xF000, &one(0x0204))?)
 }
 

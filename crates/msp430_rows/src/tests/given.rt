@@ -25,31 +25,37 @@ fn image(alloc: Global) -> Result<Image, Fail> {
     Ok(Image::new(bytes))
 }
 
-/// RAM stands from 0200h to 02FFh.
+/// RAM from 0200h to 02FFh.
+pub(crate) const RAM: RamRange = RamRange {
+    lo: 0x0200,
+    hi: 0x02FF,
+    mirror: None,
+};
+
+/// RAM from 1100h to 38FFh, of which 0200h to 09FFh show the first 2048 bytes again.
+pub(crate) const MIRRORED_RAM: RamRange = RamRange {
+    lo: 0x1100,
+    hi: 0x38FF,
+    mirror: Some((0x0200, 0x09FF)),
+};
+
+/// A device with plain RAM.
 pub(crate) fn device(alloc: Global) -> Result<Device, Fail>
     ensures { IfOk result HasRam }
 {
     Ok(Device {
         image: image(alloc)?,
-        ram: RamRange {
-            lo: 0x0200,
-            hi: 0x02FF,
-            mirror: None,
-        },
+        ram: RAM,
     })
 }
 
-/// RAM stands from 1100h to 38FFh, of which 0200h to 09FFh show the first 2048 bytes again.
+/// A device whose RAM has a mirror.
 pub(crate) fn mirrored_device(alloc: Global) -> Result<Device, Fail>
     ensures { IfOk result HasRam }
 {
     Ok(Device {
         image: image(alloc)?,
-        ram: RamRange {
-            lo: 0x1100,
-            hi: 0x38FF,
-            mirror: Some((0x0200, 0x09FF)),
-        },
+        ram: MIRRORED_RAM,
     })
 }
 

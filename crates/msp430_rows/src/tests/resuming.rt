@@ -1,6 +1,6 @@
 //! Resumed states against rows worked by hand.
 
-use super::given::{are_equal, from, number, one};
+use super::given::{RAM, are_equal, from, number, one};
 use abs_memory::CellList;
 use entry_value::{Entry, Word};
 use msp430_decode::Width;
@@ -13,7 +13,7 @@ use value_set::Vs16;
 
 /// R4 is 4 and compared with 7, and interrupts are enabled.
 fn suspended(alloc: Global) -> Result<State<CellList>, Fail> {
-    let mut state: State<CellList> = State::first(alloc, 0x0200, 0x02FF)?;
+    let mut state: State<CellList> = State::first(alloc, RAM)?;
     state.registers[0] = number(4);
     state.status.bits[3] = Tri::One;
     state.fact = Some(FlagFact {
@@ -27,7 +27,7 @@ fn suspended(alloc: Global) -> Result<State<CellList>, Fail> {
 
 /// What a handler left in SR and R4.
 fn left(alloc: Global, status: Option<Entry>, r4: Word) -> Result<State<CellList>, Fail> {
-    let mut state: State<CellList> = State::first(alloc, 0x0200, 0x02FF)?;
+    let mut state: State<CellList> = State::first(alloc, RAM)?;
     state.status.entry = status;
     state.registers[0] = r4;
     Ok(state)

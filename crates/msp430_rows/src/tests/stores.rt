@@ -3,7 +3,7 @@
 ghost use Rattle.std.specs.Prelude.{◌≡◌};
 ghost use Rattle.msp430_chip.specs.Memory.{HasRam};
 
-use super::given::{are_equal, device, from, mirrored_device, number, one, two};
+use super::given::{RAM, are_equal, device, from, mirrored_device, number, one, two};
 use abs_memory::CellList;
 use entry_value::{Cells, Entry, Word};
 use msp430_alu::{Here, double, push};
@@ -23,7 +23,7 @@ fn plain(set: Vs16) -> Word {
 
 /// SP is as told, R5 at a word of RAM, R6 at that or at the next one, R7 at that or at the program.
 fn state(alloc: Global, sp: u16) -> Result<State<CellList>, Fail> {
-    let mut state: State<CellList> = State::first(alloc, 0x0200, 0x02FF)?;
+    let mut state: State<CellList> = State::first(alloc, RAM)?;
     state.sp = one(sp);
     state.registers[1] = number(0x0200);
     state.registers[2] = plain(two(0x0200, 0x0202));

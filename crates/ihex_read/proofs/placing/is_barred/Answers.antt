@@ -9,4 +9,4 @@ returns-in-Mcs51 c = rw c.in-Mcs51.is (sym (barred_nowhere (enumerate_from c.arg
 pub returns-in-Msp430 : goal.returns-in-Msp430
 returns-in-Msp430 c =
     let placed = enumerate_from c.args.start c.args.bytes.now in
-    rw c.in-Msp430.is (c.stand_in_any.ensures ∙ sym (barred-row c.in-Msp430.lo c.in-Msp430.hi c.in-Msp430.mirror placed))
+    rw c.in-Msp430.is (c.stand_in_any.ensures ∙ sym (barred-row c.in-Msp430.ram placed))

@@ -1,6 +1,6 @@
 use Rattle.std.proofs.Common.{◌≡◌, drop}
 use Rattle.std.specs.Prelude.{map}
-use Rattle.item_lines.specs.Line.{open_line_of}
+use Rattle.report_bytes.specs.Opens.{open_line_of}
 use Rattle.report_bytes.specs.Report.{with_lines}
 use Rattle.report_bytes.proofs.report.add_opens.Given as goal
 

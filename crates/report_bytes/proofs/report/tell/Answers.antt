@@ -1,7 +1,8 @@
 use Rattle.std.specs.Prelude.{map}
-use Rattle.item_lines.specs.Line.{item_line_of, open_line_of}
+use Rattle.item_lines.specs.Line.{item_line_of}
 use Rattle.report_bytes.proofs.ReportLemmas.{told_lines}
 use Rattle.report_bytes.proofs.report.tell.Goals as goal
+use Rattle.report_bytes.specs.Opens.{open_line_of}
 
 pub returns-clause-lines : goal.returns-clause-lines
 returns-clause-lines g c =
