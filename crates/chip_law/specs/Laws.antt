@@ -17,7 +17,7 @@ use Rattle.call_context.specs.Showing.{AreShowing}
 use Rattle.chip_numbers.specs.Single.{Single}
 use Rattle.chip_numbers.specs.Single.Single.{Edge}
 use Rattle.chip_law.specs.Outcome.{Leaving}
-use Rattle.chip_law.specs.Outcome.Leaving.{no_instruction, program_written}
+use Rattle.chip_law.specs.Outcome.Leaving.{entry_pushed, no_instruction, program_written}
 use Rattle.chip_law.specs.Outcome.Outcome.{Next, Wild}
 
 -- The abstract state of a node stands for a single state, where this one is the first that is suspended, if any is.
@@ -34,8 +34,10 @@ IsWaitedFor work (Irq vector None level) = Unit {0}
 abbrev pub Tells : Cause → Leaving → Type 0
 Tells Fetch no_instruction = Unit {0}
 Tells Fetch (program_written at) = ⊥
+Tells Fetch (entry_pushed at) = ⊥
 Tells (Store values) no_instruction = ⊥
 Tells (Store values) (program_written at) = Unit {0}
+Tells (Store values) (entry_pushed at) = Unit {0}
 Tells (Targets values) why = ⊥
 
 -- some open of the work tells it
