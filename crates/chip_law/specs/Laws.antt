@@ -15,7 +15,7 @@ use Rattle.chip_analysis.specs.Analysis.{Analysis}
 use Rattle.chip_law.specs.Machine.{Machine}
 use Rattle.call_context.specs.Showing.{AreShowing}
 use Rattle.chip_numbers.specs.Single.{Single}
-use Rattle.chip_numbers.specs.Single.Single.{Edge}
+use Rattle.chip_numbers.specs.Single.Single.{Edge, Instr}
 use Rattle.chip_law.specs.Outcome.{Leaving}
 use Rattle.chip_law.specs.Outcome.Leaving.{entry_pushed, no_instruction, program_written}
 use Rattle.chip_law.specs.Outcome.Outcome.{Next, Wild}
@@ -44,6 +44,10 @@ Tells (Targets values) why = ⊥
 abbrev pub IsTold : {A : Type 0} → Work A → Leaving → Type 0
 IsTold work why = (open_site : ℕ × Cause) × Contains work.opens open_site × Tells open_site.1 why
 
+-- No instruction runs in the step: so it is where an interrupt is entered.
+abbrev pub IsEntry : List Single → Type 0
+IsEntry items = (pc : ℕ) (bytes : List ℕ) → Contains items (Instr pc bytes) → ⊥
+
 module _ {S A : Type 0} (machine : Machine S) (analysis : Analysis A) (covers : Cover S A) where
   abbrev pub ShowsAll : Work A → List Single → Type 0
   ShowsAll work items = (item : Single) → Contains items item → AreShowing work.items item
@@ -55,7 +59,7 @@ module _ {S A : Type 0} (machine : Machine S) (analysis : Analysis A) (covers : 
         → covers to state t first → ShowsAll work items → Lands node work s first items t
     -- in an interrupt's handler, with s suspended
     enters : (to : Node) (state : A) → Contains work.posts (to, state) → IsLocation to → IsWaitedFor work (frame_of to)
-        → covers to state t (Some s) → ShowsAll work items → Lands node work s first items t
+        → IsEntry items → covers to state t (Some s) → ShowsAll work items → Lands node work s first items t
     -- at the exit of the frame: the edge to where it goes on is shown by the return
     leaves : (state : A) → Contains work.posts (Exit (pc_of node) (frame_of node), state)
         → covers (Exit (pc_of node) (frame_of node)) state t first
