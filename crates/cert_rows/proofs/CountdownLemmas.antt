@@ -1,6 +1,6 @@
 -- The small chip is orderly, and its texts are exact.
 use Rattle.std.proofs.Common.{◌≡◌, ℕ, zero, suc, ◌+◌, ◌-◌, ◌%◌, ◌<◌, ◌≤◌, refl, sym, ap, ◌∙◌, subst, true, false, inl, inr, arith, Option, None, Some, List, [], ◌∷◌, get_or, length, max}
-use Rattle.std.specs.Prelude.{◌↔◌, ◌==◌, ◌&&◌, Contains, nat_le, nat_lt}
+use Rattle.std.specs.Prelude.{◌↔◌, ◌==◌, ◌&&◌, Contains, codes, nat_le, nat_lt}
 use Rattle.std.proofs.lemmas.Bool.{cases_Bool, and_parts, false≢true, true≢false, le-leb, leb-true, lt-ltb, ltb-true, eqb-true}
 use Rattle.std.proofs.lemmas.Option.{none-some}
 use Rattle.call_context.specs.declared.node.Frame.{Frame}
@@ -17,7 +17,11 @@ use Rattle.chip_analysis.specs.Analysis.{AreFormed, IsOrdered, KeepsForm}
 use Rattle.chip_analysis.specs.Orderly.{IsOrderly, location_of}
 use Rattle.text_fields.specs.Numbers.{hex_number_is_exact, number_avoids}
 use Rattle.node_fields.specs.Nodes.{IsNodeText}
+use Rattle.state_text.specs.Cells.{loose_alone}
 use Rattle.state_text.specs.Texts.{AreTexts}
+use Rattle.text_fields.specs.Fields.{behind}
+use Rattle.text_fields.specs.Spelling.{has_byte}
+use Rattle.hex_digits.specs.Digits.{hex}
 use Rattle.cert_rows.specs.Countdown.{countdown, is_frame, is_handler, is_mine, next_of, opens_of, outside, texts}
 use Rattle.plain_lemmas.specs.Members.{in_none, in_one}
 
@@ -147,12 +151,21 @@ node_fits (Exit pc (Irq vector (Some sp) level)) mine =
     let zero : level ≡ 0 = eqb-true level 0 entry.1 in
     (ltb-true pc 65536 parts.0, (omega (arith, below), omega (arith, at), omega (arith, zero)))
 
+-- no M begins the text
+no_cells : (text : List ℕ) → has_byte 77 text ≡ false → behind (codes "M=") text ≡ None
+no_cells [] none = refl
+no_cells (b ∷ text) none = elim (cases_Bool (b == 77)) [
+  | inl is ↦ absurd (false≢true (sym none ∙ rw is refl))
+  | inr other ↦ rw other refl
+]
+
 pub exact : AreTexts countdown texts
 exact = record {
   nodes = λ node state form. node_fits node form.0;
   again = λ node state form. rw form.0 ((hex_number_is_exact 4).back state form.1);
   takes = taken;
   one_line = λ node state form. number_avoids 4 10 refl state form.1;
+  loose = λ node state form. loose_alone 4 (hex 4 state) (number_avoids 4 32 refl state form.1) (no_cells (hex 4 state) (number_avoids 4 77 refl state form.1));
   included = λ node new held form form'. is_within new held;
 }
   where

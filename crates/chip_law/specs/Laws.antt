@@ -6,7 +6,6 @@ use Rattle.call_context.specs.declared.node.Frame.{Frame}
 use Rattle.call_context.specs.declared.node.Frame.TheVariants.{Base, Irq}
 use Rattle.call_context.specs.declared.node.Node.{Node}
 use Rattle.call_context.specs.declared.node.Node.TheVariants.{Exit}
-use Rattle.call_context.specs.declared.node.Unit.{Unit as WorkUnit}
 use Rattle.call_context.specs.declared.node.Unit.TheVariants.{One, Back}
 use Rattle.call_context.specs.Nodes.{pc_of, frame_of, IsLocation}
 use Rattle.chip_analysis.specs.declared.cause.Cause.{Cause}
@@ -16,9 +15,9 @@ use Rattle.chip_analysis.specs.Analysis.{Analysis}
 use Rattle.chip_law.specs.Machine.{Machine}
 use Rattle.call_context.specs.Showing.{AreShowing}
 use Rattle.chip_numbers.specs.Single.{Single}
-use Rattle.chip_numbers.specs.Single.Single.{Edge}
+use Rattle.chip_numbers.specs.Single.Single.{Edge, Instr}
 use Rattle.chip_law.specs.Outcome.{Leaving}
-use Rattle.chip_law.specs.Outcome.Leaving.{no_instruction, program_written}
+use Rattle.chip_law.specs.Outcome.Leaving.{entry_pushed, no_instruction, program_written}
 use Rattle.chip_law.specs.Outcome.Outcome.{Next, Wild}
 
 -- The abstract state of a node stands for a single state, where this one is the first that is suspended, if any is.
@@ -35,13 +34,19 @@ IsWaitedFor work (Irq vector None level) = Unit {0}
 abbrev pub Tells : Cause → Leaving → Type 0
 Tells Fetch no_instruction = Unit {0}
 Tells Fetch (program_written at) = ⊥
+Tells Fetch (entry_pushed at) = ⊥
 Tells (Store values) no_instruction = ⊥
 Tells (Store values) (program_written at) = Unit {0}
+Tells (Store values) (entry_pushed at) = Unit {0}
 Tells (Targets values) why = ⊥
 
 -- some open of the work tells it
 abbrev pub IsTold : {A : Type 0} → Work A → Leaving → Type 0
 IsTold work why = (open_site : ℕ × Cause) × Contains work.opens open_site × Tells open_site.1 why
+
+-- No instruction runs in the step: so it is where an interrupt is entered.
+abbrev pub IsEntry : List Single → Type 0
+IsEntry items = (pc : ℕ) (bytes : List ℕ) → Contains items (Instr pc bytes) → ⊥
 
 module _ {S A : Type 0} (machine : Machine S) (analysis : Analysis A) (covers : Cover S A) where
   abbrev pub ShowsAll : Work A → List Single → Type 0
@@ -54,7 +59,7 @@ module _ {S A : Type 0} (machine : Machine S) (analysis : Analysis A) (covers : 
         → covers to state t first → ShowsAll work items → Lands node work s first items t
     -- in an interrupt's handler, with s suspended
     enters : (to : Node) (state : A) → Contains work.posts (to, state) → IsLocation to → IsWaitedFor work (frame_of to)
-        → covers to state t (Some s) → ShowsAll work items → Lands node work s first items t
+        → IsEntry items → covers to state t (Some s) → ShowsAll work items → Lands node work s first items t
     -- at the exit of the frame: the edge to where it goes on is shown by the return
     leaves : (state : A) → Contains work.posts (Exit (pc_of node) (frame_of node), state)
         → covers (Exit (pc_of node) (frame_of node)) state t first

@@ -6,8 +6,10 @@ use Rattle.chip_numbers.specs.Single.{Single}
 pub data Leaving : Type 0 where
   -- an instruction is to run where none stands
   no_instruction : Leaving
-  -- a store writes this byte of the program
+  -- the store of an instruction writes this byte of the program
   program_written : (at : ℕ) → Leaving
+  -- the entry of an interrupt pushes over this byte of the program
+  entry_pushed : (at : ℕ) → Leaving
 
 -- what a step leads to: the next state with what the step did, or out of what the model says
 pub data Outcome (S : Type 0) : Type 0 where

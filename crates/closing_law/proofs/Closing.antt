@@ -175,7 +175,7 @@ module _ {S A : Type 0} (machine : Machine S) (m : Analysis A) (covered : Cover 
       let post = held_post node a location held to state posted in
       let still = stands_like suspended node to a post.more.0 s t same stands (post.covers t (first_of suspended) covers) in
       record { after = stands_at to state post suspended t to_location still; shown = shown_at node a location held items shows }
-  goes_on node a s suspended items t location held stands (enters to state posted to_location waited covers shows) =
+  goes_on node a s suspended items t location held stands (enters to state posted to_location waited entry covers shows) =
       let post = held_post node a location held to state posted in
       let below = suspended_at (m.work (One node) a None) (frame_of to) (λ n b. Stands m covered table suspended n b s) node a refl location held stands waited in
       record {

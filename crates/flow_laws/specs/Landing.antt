@@ -1,7 +1,8 @@
 -- Where steps land among the posts of the work of a location.
-use Rattle.std.proofs.Common.{◌≡◌, ◌⊎◌, ◌++◌, ℕ, Option, None, Some, List, [], ◌∷◌, append_assoc, refl, sym, ap, ◌∙◌, subst, inl, inr, Contains}
+use Rattle.std.proofs.Common.{◌≡◌, ◌⊎◌, ◌++◌, ℕ, Bool, true, false, Option, None, Some, List, [], ◌∷◌, append_assoc, refl, sym, ap, ◌∙◌, subst, inl, inr, Contains}
 use Rattle.std.specs.Prelude.{map}
-use Rattle.std.specs.List.{flat_map}
+use Rattle.std.specs.List.{flat_map, list_all}
+use Rattle.std.proofs.lemmas.Bool.{and_parts, false≢true}
 use Rattle.std.proofs.lemmas.List.Elements.{Contains-append_left, Contains-append_right, Contains-append_cases}
 use Rattle.call_context.specs.declared.node.Frame.{Frame}
 use Rattle.call_context.specs.declared.node.Frame.TheVariants.{Base, Irq}
@@ -11,10 +12,10 @@ use Rattle.call_context.specs.declared.shown.Item.{Item}
 use Rattle.call_context.specs.declared.shown.Item.TheVariants as items
 use Rattle.call_context.specs.Showing.{AreShowing, HasValue}
 use Rattle.chip_numbers.specs.Single.{Single}
-use Rattle.chip_numbers.specs.Single.Single.{Instr as Ran, Edge as Went, Stack as Stood}
+use Rattle.chip_numbers.specs.Single.Single.{Access as Read, Instr as Ran, Edge as Went, Stack as Stood}
 use Rattle.chip_analysis.specs.declared.chip.Work.{Work}
 use Rattle.chip_analysis.specs.Analysis.{Analysis}
-use Rattle.chip_law.specs.Laws.{Cover, IsWaitedFor, Lands}
+use Rattle.chip_law.specs.Laws.{Cover, IsEntry, IsWaitedFor, Lands}
 use Rattle.chip_law.specs.Laws.Lands.{enters, leaves, stays}
 use Rattle.chip_law.specs.Machine.{Machine}
 use Rattle.value_set.specs.declared.form.Form.{Form}
@@ -39,6 +40,29 @@ more_shown some all single within (item, there, shows) = (item, within item ther
 -- what a step of an instruction shows
 abbrev pub step_singles : (pc sp : ℕ) → (bytes : List ℕ) → (accesses : List Single) → (to : ℕ) → List Single
 step_singles pc sp bytes accesses to = Stood pc sp ∷ Ran pc bytes ∷ accesses ++ Went pc to ∷ []
+
+-- the item is something else than an instruction
+abbrev pub is_other : Single → Bool
+is_other (Stood pc sp) = true
+is_other (Ran pc bytes) = false
+is_other (Read pc space write size address) = true
+is_other (Went origin target) = true
+
+-- a step of which each item is something else runs no instruction
+pub others_alone : (items : List Single) → list_all is_other items ≡ true → IsEntry items
+others_alone [] all pc bytes there = in_none (Ran pc bytes) there
+others_alone (single ∷ items) all pc bytes there =
+    let parts = and_parts (is_other single) (list_all is_other items) all in
+    elim (in_cons single items (Ran pc bytes) there) [
+      | inl same ↦ absurd (false≢true (subst (λ item. is_other item ≡ true) same parts.0))
+      | inr rest ↦ others_alone items parts.1 pc bytes rest
+    ]
+
+stood_in_front : (pc sp : ℕ) (others : List Single) → IsEntry others → IsEntry (Stood pc sp ∷ others)
+stood_in_front pc sp others entry at bytes there = elim (in_cons (Stood pc sp) others (Ran at bytes) there) [
+  | inl same ↦ absurd (cc)
+  | inr rest ↦ entry at bytes rest
+]
 
 -- WHERE AN INSTRUCTION GOES ON
 
@@ -197,15 +221,16 @@ module _ {A I C S : Type 0} (machine : Machine S) (analysis : Analysis A) (cover
     pub entry_lands : (found : Option I) (s : S) (first : Option S) (coming : C) (sp : ℕ) (others : List Single) (t : S)
         → Contains (flow.comings a) coming → (flow.frame_of coming ≡ Base → ⊥)
         → HasValue (flow.stack a) sp → covers (At (flow.handler coming) [] (flow.frame_of coming)) (flow.entered a pc coming) t (Some s)
-        → ((single : Single) → Contains others single → AreShowing (flow.entry_items pc coming) single)
+        → IsEntry others → ((single : Single) → Contains others single → AreShowing (flow.entry_items pc coming) single)
         → Lands machine analysis covers (At pc calls frame) (work_at joined flow pc calls frame a found) s first (Stood pc sp ∷ others) t
-    entry_lands found s first coming sp others t listed irq on_stack covered shows =
+    entry_lands found s first coming sp others t listed irq on_stack covered entry shows =
         let work = work_at joined flow pc calls frame a found in
         let stack = items.Stack pc (flow.stack a) in
         let own = flow.entry_items pc coming in
         let within : (item : Item) → Contains (stack ∷ own) item → Contains work.items item = λ item here. front_in found item (stack_or_entry coming item listed here) in
         enters (At (flow.handler coming) [] (flow.frame_of coming)) (flow.entered a pc coming) (entry_in found coming listed) tt
-        (waited work coming (flow.frame_of coming) (waits_are found) listed refl irq) covered
+        (waited work coming (flow.frame_of coming) (waits_are found) listed refl irq)
+        (stood_in_front pc sp others entry) covered
         (λ single there. elim (in_cons (Stood pc sp) others single there) [
           | inl same ↦ subst (AreShowing work.items) same (stack, within stack (in_first stack own), (refl, on_stack))
           | inr other ↦ more_shown own work.items single (λ item here. within item (in_rest stack own item here)) (shows single other)

@@ -8,12 +8,12 @@ use Rattle.call_context.specs.declared.shown.Item.{Item}
 use Rattle.call_context.specs.Showing.{AreShowing}
 use Rattle.chip_numbers.specs.Single.{Single}
 use Rattle.chip_numbers.specs.Single.Single.{Instr as RanOne, Edge as Went, Stack as Stood}
-use Rattle.chip_law.specs.Laws.{Lands}
+use Rattle.chip_law.specs.Laws.{IsEntry, Lands}
 use Rattle.choosing.specs.Outcome.Outcome.{Next as Onward}
 use Rattle.chip_flow.specs.Along.{HasWay, limited_is}
 use Rattle.chip_flow.specs.Calls.{Site}
 use Rattle.chip_flow.specs.Going.{ways_in}
-use Rattle.flow_laws.specs.Landing.{Arrives, entry_lands as generic_entry_lands, run_lands as generic_run_lands, step_singles}
+use Rattle.flow_laws.specs.Landing.{Arrives, entry_lands as generic_entry_lands, others_alone, run_lands as generic_run_lands, step_singles}
 use Rattle.flow_laws.specs.Landing.Arrives.{at_exit, beyond, on_way}
 use Rattle.chip_flow.specs.Works.{site_of, work_at}
 use Rattle.chip_flow.specs.declared.going.Onward.{Onward as GoesOnward}
@@ -155,6 +155,10 @@ entry_shown s coming_so shows item there =
           (edge, Contains-append_right pushes (edge ∷ []) edge (in_first edge []), (refl, refl))
     ]
 
+-- two pushes and an edge
+is_entry : (s : ChipState) (source : ℕ) → IsEntry (entry_singles s source)
+is_entry s source = others_alone (entry_singles s source) refl
+
 pub entry_lands : Laws
     → (setting : Setting) (calls : List ℕ) (frame : Frame) (a : Known) (s : ChipState) (first : Option ChipState) (found : Option Instr) (items_so : List Single) (t : ChipState)
     → IsUnder (is_interrupt frame) a s first → (coming_so : Coming) → ComesSo a s coming_so
@@ -167,5 +171,5 @@ entry_lands laws setting calls frame a s first found items_so t under coming_so 
     let LandsAt = Lands (mcs51_machine setting.image) (mcs51_analysis setting) Covers (At s.pc calls frame) (work_at known_joined flow s.pc calls frame a found) s first in
     subst (λ all. LandsAt all t) (sym same.0) (subst (LandsAt (Stood s.pc s.sp ∷ entry_singles s source)) (sym same.1)
     (generic_entry_lands (mcs51_machine setting.image) (mcs51_analysis setting) Covers known_joined flow s.pc calls frame a found s first coming_so s.sp (entry_singles s source) (entered_state s source)
-    so.listed (λ e. cc) under.holds.parts.sp (laws.entries.covered (is_interrupt frame) a s first coming_so under so)
+    so.listed (λ e. cc) under.holds.parts.sp (laws.entries.covered (is_interrupt frame) a s first coming_so under so) (is_entry s source)
     (entry_shown s coming_so (laws.entries.shown (is_interrupt frame) a s first coming_so under so))))

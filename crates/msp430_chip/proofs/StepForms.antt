@@ -26,6 +26,8 @@ use Rattle.msp430_chip.specs.declared.place.Flags.{Flags}
 use Rattle.msp430_chip.specs.declared.place.Place.{Place}
 use Rattle.msp430_chip.specs.declared.place.Place.TheVariants.{InRegister, InMemory, Fixed}
 use Rattle.msp430_chip.specs.declared.state.ChipState.{ChipState}
+use Rattle.msp430_chip.specs.declared.state.Wild.{Wild as WildCause}
+use Rattle.msp430_chip.specs.declared.state.Wild.TheVariants as wild_cause
 use Rattle.msp430_chip.specs.Arithmetic.{modulus, sets_flags, single_sets_flags, reads_destination, writes_result}
 use Rattle.choosing.specs.Asking.{answer, ask, and_then}
 use Rattle.msp430_chip.specs.Interrupts.{coming, enter, handler_of, vector_address}
@@ -64,14 +66,14 @@ state_is : (device : Device) (registers ram : List ℕ) (late : Bool) → AreReg
     → IsChipState device (record { registers = registers; ram = ram; late = late })
 state_is device registers ram late are is = assumption (are, is)
 
-unless_keeps : (device : Device) (hit : Option ℕ) (items : List Single) (t : ChipState) → IsChipState device t
-    → Keeps device (unless_hit hit items t)
-unless_keeps device None items t is = is
-unless_keeps device (Some at) items t is = tt
+unless_keeps : (device : Device) (why : ℕ → WildCause) (hit : Option ℕ) (items : List Single) (t : ChipState) → IsChipState device t
+    → Keeps device (unless_hit why hit items t)
+unless_keeps device why None items t is = is
+unless_keeps device why (Some at) items t is = tt
 
 done_keeps : (device : Device) (s : ChipState) (instr : Instr) (accesses : List Single) (left : Left)
     → IsLeft device left → Keeps device (done s instr accesses left)
-done_keeps device s instr accesses left is = unless_keeps device left.hit _ _ (state_is device left.registers left.ram _ is.registers is.ram)
+done_keeps device s instr accesses left is = unless_keeps device wild_cause.Store left.hit _ _ (state_is device left.registers left.ram _ is.registers is.ram)
 
 -- ---- operands
 
@@ -352,7 +354,7 @@ enter_gives device s vector image is =
     let pushed_pc : IsMemory device (with_stored device s.ram Word ((register_of s 1 + 65534) % 65536) (register_of s 0)) =
     with_stored_keeps device s.ram Word _ (register_of s 0) (state_memory device s image is) (pc_below device s is) in
     then_gives (λ (bits : ℕ). bits < 128) (Keeps device) _ _ (ask_gives 128 (omega arith)) (λ bits few.
-    answer_gives (Keeps device) _ (unless_keeps device _ _ _ (state_is device _ _ _
+    answer_gives (Keeps device) _ (unless_keeps device wild_cause.Push _ _ _ (state_is device _ _ _
     (set_status _ (register_of s 2 / 64 % 2 * 64) (set_sp _ _ (set_pc s.registers (handler_of device vector) are (even_below _ handler) (even_is _)) sunk.below sunk.whole) (omega arith))
     (with_stored_keeps device _ Word _ (register_of s 2 + 512 * bits) pushed_pc (omega (arith, few, q))))))
 

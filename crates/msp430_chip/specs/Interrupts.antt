@@ -7,6 +7,7 @@ use Rattle.chip_numbers.specs.Single.Single.{Access, Edge, Stack}
 use Rattle.msp430_decode.specs.declared.instr.Width.TheVariants.{Word}
 use Rattle.msp430_chip.specs.declared.device.Device.{Device}
 use Rattle.msp430_chip.specs.declared.state.ChipState.{ChipState}
+use Rattle.msp430_chip.specs.declared.state.Wild.TheVariants.{Push}
 use Rattle.choosing.specs.Asking.{Asking, answer, ask, ◌>>=◌}
 use Rattle.msp430_chip.specs.Memory.{aligned, with_stored, program_hit}
 use Rattle.msp430_chip.specs.Outcome.{Outcome, unless_hit}
@@ -48,7 +49,7 @@ entry device s vector bits =
     let sp = register_of s 1 in
     let first = (sp + 65534) % 65536 in
     let second = (sp + 65532) % 65536 in
-    unless_hit (first_hit (program_hit device Word first) (program_hit device Word second))
+    unless_hit Push (first_hit (program_hit device Word first) (program_hit device Word second))
     (Stack pc sp ∷ Access pc Mem true 2 (aligned device Word first) ∷ Access pc Mem true 2 (aligned device Word second)
     ∷ Edge pc (handler_of device vector) ∷ [])
     (record {

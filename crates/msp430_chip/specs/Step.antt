@@ -27,7 +27,7 @@ use Rattle.msp430_chip.specs.declared.place.Flags.{Flags}
 use Rattle.msp430_chip.specs.declared.place.Place.{Place}
 use Rattle.msp430_chip.specs.declared.place.Place.TheVariants.{InRegister, InMemory, Fixed}
 use Rattle.msp430_chip.specs.declared.state.ChipState.{ChipState}
-use Rattle.msp430_chip.specs.declared.state.Wild.TheVariants.{NoInstr}
+use Rattle.msp430_chip.specs.declared.state.Wild.TheVariants.{NoInstr, Store}
 use Rattle.msp430_chip.specs.Arithmetic.{result_of, single_result, sets_flags, single_sets_flags, writes_result, reads_destination, with_made_flags}
 use Rattle.choosing.specs.Asking.{Asking, answer, ask, ask_if, and_then, ◌>>=◌}
 use Rattle.msp430_chip.specs.Interrupts.{coming, enter}
@@ -69,7 +69,7 @@ with_status flags left = record {
 abbrev pub done : ChipState → Instr → List Single → Left → Outcome ChipState
 done s instr accesses left =
     let pc = register_of s 0 in
-    unless_hit left.hit
+    unless_hit Store left.hit
     (Stack pc (register_of s 1) ∷ Ran pc (bytes_of instr) ∷ accesses ++ Edge pc (slice_index left.registers 0) ∷ [])
     (record { registers = left.registers; ram = left.ram; late = allows_interrupts s })
 

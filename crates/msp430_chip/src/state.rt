@@ -19,6 +19,8 @@ pub struct ChipState {
 pub enum Wild {
     /// An instruction is to run where none stands.
     NoInstr(NoInstr),
-    /// A store writes a byte of the program, and this is the lowest one that the first such store writes.
+    /// The store of an instruction writes the program, and this is the lowest byte of it that is written.
     Store(u16),
+    /// The entry of an interrupt pushes over the program, and this is the lowest byte of it that the first such push writes.
+    Push(u16),
 }

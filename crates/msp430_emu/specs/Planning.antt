@@ -9,7 +9,8 @@ use Rattle.chip_numbers.specs.Single.Single.{Instr, Edge, Access, Stack}
 use Rattle.msp430_decode.specs.declared.refusal.NoInstr.{NoInstr as ANoInstr}
 use Rattle.msp430_chip.specs.declared.device.Device.{Device}
 use Rattle.msp430_chip.specs.declared.state.ChipState.{ChipState}
-use Rattle.msp430_chip.specs.declared.state.Wild.TheVariants.{NoInstr}
+use Rattle.msp430_chip.specs.declared.state.Wild.{Wild as Cause}
+use Rattle.msp430_chip.specs.declared.state.Wild.TheVariants.{NoInstr, Push, Store}
 use Rattle.msp430_chip.specs.Interrupts.{first_hit}
 use Rattle.msp430_chip.specs.Outcome.{Outcome, unless_hit}
 use Rattle.choosing.specs.Outcome.Outcome.{Wild}
@@ -30,6 +31,11 @@ singles_of device s plan = let pc = register_of s 0 in
 abbrev pub plan_hit : Device → Plan → Option ℕ
 plan_hit device plan = first_hit (hit_of device plan.first) (hit_of device plan.second)
 
+-- why the model is left by a store: no instruction runs where an interrupt is entered
+abbrev pub hitting : Option (ArrayVec ℕ) → (at : ℕ) → Cause
+hitting None at = Push at
+hitting (Some bytes) at = Store at
+
 abbrev pub state_after : Device → ChipState → Plan → ChipState
 state_after device s plan = record {
   registers = plan.registers;
@@ -38,7 +44,7 @@ state_after device s plan = record {
 }
 
 abbrev pub planned : Device → ChipState → Plan → Outcome ChipState
-planned device s plan = unless_hit (plan_hit device plan) (singles_of device s plan) (state_after device s plan)
+planned device s plan = unless_hit (hitting plan.bytes) (plan_hit device plan) (singles_of device s plan) (state_after device s plan)
 
 -- what a step comes to, where an instruction stands and where none does
 abbrev pub outcome_of : Device → ChipState → Result Plan ANoInstr → Outcome ChipState

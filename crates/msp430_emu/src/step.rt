@@ -11,6 +11,7 @@ ghost use Rattle.msp430_chip.specs.Step as steps;
 ghost use Rattle.choosing.specs.Choosing.{asked_as};
 ghost use Rattle.msp430_emu.specs.Drafting.{drafted};
 ghost use Rattle.msp430_emu.specs.Here.{Stands};
+ghost use Rattle.msp430_emu.specs.Planning as planning;
 ghost use Rattle.msp430_emu.specs.Planning.{outcome_of, planned};
 ghost use Rattle.msp430_chip.specs.Registers.{AreRegisters};
 ghost use Rattle.msp430_emu.specs.Stepping.{Ends, IsStill, Steps};
@@ -141,6 +142,16 @@ fn course(layout: &Layout, s: &ChipState, choices: &mut Unused) -> Option<Result
     Some(Ok(plan))
 }
 
+/// Why the model is left by a step that is to write this byte of the program.
+fn hitting(plan: &Plan, at: u16) -> Wild
+    ensures { result ≡ planning.hitting plan.now.bytes at }
+{
+    match &plan.bytes {
+        Some(_) => Wild::Store(at),
+        None => Wild::Push(at),
+    }
+}
+
 /// Does what a step came to, unless it is to write the program or no instruction stands there.
 fn finish(layout: &Layout, state: &mut ChipState, found: Result<Plan, NoInstr>) -> Stepped
     requires size { length state.old.ram ≡ states.ram_size layout.now }
@@ -157,7 +168,7 @@ fn finish(layout: &Layout, state: &mut ChipState, found: Result<Plan, NoInstr>) 
         Err(none) => return Stepped::Wild(Wild::NoInstr(none)),
     };
     match plan_hit(layout, &plan) {
-        Some(at) => Stepped::Wild(Wild::Store(at)),
+        Some(at) => Stepped::Wild(hitting(&plan, at)),
         None => {
             let items = items_of(layout, state, &plan);
             commit(layout, state, &plan);

@@ -21,6 +21,7 @@ use Rattle.value_set.specs.Summing.{add, single}
 use Rattle.msp430_decode.specs.declared.instr.Width.TheVariants.{Word as Words}
 use Rattle.msp430_chip.specs.declared.device.Device.{Device}
 use Rattle.msp430_chip.specs.declared.state.ChipState.{ChipState}
+use Rattle.msp430_chip.specs.declared.state.Wild.TheVariants.{Push}
 use Rattle.msp430_chip.specs.Interrupts.{entered, entry, first_hit, handler_of}
 use Rattle.msp430_chip.specs.Memory.{program_hit, with_stored}
 use Rattle.msp430_chip.specs.Outcome.{unless_hit}
@@ -219,7 +220,7 @@ entered_parts laws device framed a s first sp vector bits under words has few =
     }
 
 -- where no store hits the program, the entry leaves its state
-left_by : (hit : Option ℕ) (these items : List Single) (one t : ChipState) → unless_hit hit these one ≡ Next items t → one ≡ t
+left_by : (hit : Option ℕ) (these items : List Single) (one t : ChipState) → unless_hit Push hit these one ≡ Next items t → one ≡ t
 left_by None these items one t e = cc
 left_by (Some at) these items one t e = absurd (cc)
 

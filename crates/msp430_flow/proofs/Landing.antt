@@ -8,9 +8,9 @@ use Rattle.call_context.specs.Showing.{AreShowing}
 use Rattle.chip_numbers.specs.Single.{Single}
 use Rattle.chip_numbers.specs.Single.Single.{Stack as Stood}
 use Rattle.chip_analysis.specs.declared.chip.Work.{Work}
-use Rattle.chip_law.specs.Laws.{Lands}
+use Rattle.chip_law.specs.Laws.{IsEntry, Lands}
 use Rattle.chip_flow.specs.Along.{IsOnward, ways_formed}
-use Rattle.flow_laws.specs.Landing.{Arrives, entry_lands as generic_entry_lands, run_lands as generic_run_lands}
+use Rattle.flow_laws.specs.Landing.{Arrives, entry_lands as generic_entry_lands, others_alone, run_lands as generic_run_lands}
 use Rattle.flow_laws.specs.Landing.Arrives.{at_exit, beyond, on_way}
 use Rattle.chip_flow.specs.Works.{site_of, work_at}
 use Rattle.chip_flow.specs.declared.going.Onward.{Onward as GoesOnward}
@@ -335,6 +335,10 @@ module _ (laws : Laws) (setting : Setting) (calls : List ℕ) (frame : Frame) (a
 
 -- WHERE AN INTERRUPT LANDS
 
+-- two pushes and an edge
+is_entry : (device : Device) (s : ChipState) (vector : ℕ) → IsEntry (entry_shows device s vector)
+is_entry device s vector = others_alone (entry_shows device s vector) refl
+
 pub entry_lands : Laws
     → (setting : Setting) (calls : List ℕ) (frame : Frame) (a : Known) (s : ChipState) (first : Option ChipState) (found : Option Instr) (items_so : List Single) (t : ChipState)
     → IsUnder setting.device (is_interrupt frame) a s first → IsChipState setting.device t
@@ -356,4 +360,4 @@ entry_lands laws setting calls frame a s first found items_so t under form comin
     subst (λ all. Lands (msp430_machine device) (msp430_analysis setting) (Covers device) (At pc calls frame) (work_at known_joined flow pc calls frame a found) s first all t) (sym same.0)
     (generic_entry_lands (msp430_machine device) (msp430_analysis setting) (Covers device) known_joined flow pc calls frame a found s first coming_so (register_of s 1) shows t
     so.listed (λ base. cc) under.holds.parts.sp (laws.entries.covered device framed a s t first coming_so bits items_so under so below (sym is) form)
-    (laws.entries.shown device framed a s first coming_so under so))
+    (is_entry device s coming_so.vector) (laws.entries.shown device framed a s first coming_so under so))

@@ -11,7 +11,8 @@ use Rattle.chip_analysis.specs.declared.cause.Cause.{Cause}
 use Rattle.chip_analysis.specs.declared.cause.Cause.TheVariants.{Fetch, Store, Targets}
 use Rattle.chip_analysis.specs.declared.chip.Work.{Work}
 use Rattle.chip_law.specs.Laws.{IsTold, Tells}
-use Rattle.chip_law.specs.Outcome.Leaving.{program_written}
+use Rattle.chip_law.specs.Outcome.{Leaving}
+use Rattle.chip_law.specs.Outcome.Leaving.{entry_pushed, program_written}
 use Rattle.chip_flow.specs.Causes.{BreaksLimit}
 use Rattle.chip_flow.specs.Opens.{BreaksLimits, entry_open, fetch_open, store_open as instr_open}
 use Rattle.chip_flow.specs.Standing.{Fetching, by_answer, found_by, none_found, one_found}
@@ -148,14 +149,14 @@ entered_state device s vector bits = record {
 }
 
 pub done_by_hit : (s : ChipState) (instr_so : Instr) (accesses : List Single) (left : Left) (hit : Option ℕ) → left.hit ≡ hit
-    → done s instr_so accesses left ≡ unless_hit hit (items_of s instr_so accesses left) (state_behind s left)
-done_by_hit s instr_so accesses left hit e = ap (λ h. unless_hit h (items_of s instr_so accesses left) (state_behind s left)) e
+    → done s instr_so accesses left ≡ unless_hit wild_cause.Store hit (items_of s instr_so accesses left) (state_behind s left)
+done_by_hit s instr_so accesses left hit e = ap (λ h. unless_hit wild_cause.Store h (items_of s instr_so accesses left) (state_behind s left)) e
 
 -- the entry of an interrupt, by the byte of the program that it would write
 pub entry_by : (device : Device) (s : ChipState) (vector bits : ℕ) (hit : Option ℕ)
     → first_hit (program_hit device Word ((register_of s 1 + 65534) % 65536)) (program_hit device Word ((register_of s 1 + 65532) % 65536)) ≡ hit
-    → entry device s vector bits ≡ unless_hit hit (Stood (register_of s 0) (register_of s 1) ∷ entry_shows device s vector) (entered_state device s vector bits)
-entry_by device s vector bits hit e = ap (λ h. unless_hit h (Stood (register_of s 0) (register_of s 1) ∷ entry_shows device s vector) (entered_state device s vector bits)) e
+    → entry device s vector bits ≡ unless_hit wild_cause.Push hit (Stood (register_of s 0) (register_of s 1) ∷ entry_shows device s vector) (entered_state device s vector bits)
+entry_by device s vector bits hit e = ap (λ h. unless_hit wild_cause.Push h (Stood (register_of s 0) (register_of s 1) ∷ entry_shows device s vector) (entered_state device s vector bits)) e
 
 same_wild : {one other : WildCause} → ◌≡◌ {A = Outcome ChipState} (Leaves one) (Leaves other) → one ≡ other
 same_wild e = cc
@@ -165,8 +166,8 @@ opened_at : (device : Device) (width : Width) (set : Form) (at : ℕ) → IsHit 
     → open_store device width set ≡ Some (Store set)
 opened_at device width set at hit = cond-true (may_hit device width set) (Some (Store set)) None (hit_told device width set at hit)
 
-told_by : (work : Work Known) (pc at : ℕ) (set : Form) → Contains work.opens (pc, Store set) → IsTold work (program_written at)
-told_by work pc at set there = ((pc, Store set), there, tt)
+told_by : (work : Work Known) (pc : ℕ) (set : Form) (why : Leaving) → Tells (Store set) why → Contains work.opens (pc, Store set) → IsTold work why
+told_by work pc set why tells there = ((pc, Store set), there, tells)
 
 -- the store of an instruction that leaves the model
 store_told : (setting : Setting) (pc : ℕ) (calls : List ℕ) (frame : Frame) (a : Known) (instr_so : Instr) (made_so : Worked) (at : ℕ) (store : Option Form)
@@ -177,7 +178,7 @@ store_told setting pc calls frame a instr_so made_so at (Some set) is hit =
     let width = stored_width instr_so in
     let made = followed_by setting frame a pc instr_so made_so in
     let opened : made.store ≡ Some (Store set) = ap (store_of setting.device width) is ∙ opened_at setting.device width set at hit in
-    told_by (work_by known_joined (msp430_flow setting) pc calls frame a instr_so made) pc at set (instr_open known_joined (msp430_flow setting) pc calls frame a instr_so made (Store set) opened)
+    told_by (work_by known_joined (msp430_flow setting) pc calls frame a instr_so made) pc set (program_written at) tt (instr_open known_joined (msp430_flow setting) pc calls frame a instr_so made (Store set) opened)
 
 hit_told_by : (setting : Setting) (calls : List ℕ) (frame : Frame) (a : Known) (s : ChipState) (first : Option ChipState) (instr_so : Instr) (wild : WildCause)
     → (run : IsRun setting.device (is_interrupt frame) a s first instr_so (Leaves wild)) → (hit : Option ℕ) → run.left.hit ≡ hit
@@ -207,10 +208,10 @@ push_in device pc at coming_so hits =
       | inr hit ↦ (status, Contains-append_right first second (pc, Store status) (opened_in device pc at status hit))
     ]
 
--- an entry that leaves the model does so by a store
+-- an entry that leaves the model does so by a push
 entry_hit : (device : Device) (s : ChipState) (vector bits : ℕ) (wild : WildCause) (hit : Option ℕ)
     → first_hit (program_hit device Word ((register_of s 1 + 65534) % 65536)) (program_hit device Word ((register_of s 1 + 65532) % 65536)) ≡ hit
-    → ◌≡◌ {A = Outcome ChipState} (Leaves wild) (entry device s vector bits) → (at : ℕ) × (hit ≡ Some at) × (wild ≡ wild_cause.Store at)
+    → ◌≡◌ {A = Outcome ChipState} (Leaves wild) (entry device s vector bits) → (at : ℕ) × (hit ≡ Some at) × (wild ≡ wild_cause.Push at)
 entry_hit device s vector bits wild None is leaves = absurd (let both = leaves ∙ entry_by device s vector bits None is in cc)
 entry_hit device s vector bits wild (Some at) is leaves = (at, refl, same_wild (leaves ∙ entry_by device s vector bits (Some at) is))
 
@@ -227,7 +228,7 @@ entry_told laws setting calls frame a s first wild found under coming_so bits so
     let (set, there) = push_in device pc at coming_so (laws.entries.hit device (is_interrupt frame) a s first coming_so at under so is) in
     let work = work_at known_joined (msp430_flow setting) pc calls frame a found in
     subst (λ w. IsTold work (leaving_of w)) (sym why)
-    (told_by work pc at set (entry_open known_joined (msp430_flow setting) pc calls frame a found coming_so (pc, Store set) so.listed there))
+    (told_by work pc set (entry_pushed at) tt (entry_open known_joined (msp430_flow setting) pc calls frame a found coming_so (pc, Store set) so.listed there))
 
 pub told : Laws
     → (setting : Setting) (calls : List ℕ) (frame : Frame) (a : Known) (s : ChipState) (first : Option ChipState) (wild : WildCause)

@@ -2,12 +2,12 @@
 use Rattle.std.specs.Prelude.{◌≡◌, ℕ, Some, List}
 use Rattle.chip_law.specs.Machine.{Machine}
 use Rattle.chip_law.specs.Outcome.{Outcome, Leaving}
-use Rattle.chip_law.specs.Outcome.Leaving.{no_instruction, program_written}
+use Rattle.chip_law.specs.Outcome.Leaving.{entry_pushed, no_instruction, program_written}
 use Rattle.chip_law.specs.Outcome.Outcome.{Next, Wild}
 use Rattle.msp430_chip.specs.declared.device.Device.{Device}
 use Rattle.msp430_chip.specs.declared.state.ChipState.{ChipState}
 use Rattle.msp430_chip.specs.declared.state.Wild.{Wild as WildCause}
-use Rattle.msp430_chip.specs.declared.state.Wild.TheVariants.{NoInstr, Store}
+use Rattle.msp430_chip.specs.declared.state.Wild.TheVariants.{NoInstr, Push, Store}
 use Rattle.choosing.specs.Outcome.Outcome.{Next as Onward, Wild as Leaves}
 use Rattle.msp430_chip.specs.State.{register_of, IsResetOf}
 use Rattle.msp430_chip.specs.Step.{step_of}
@@ -15,6 +15,7 @@ use Rattle.msp430_chip.specs.Step.{step_of}
 abbrev pub leaving_of : WildCause → Leaving
 leaving_of (NoInstr refusal) = no_instruction
 leaving_of (Store at) = program_written at
+leaving_of (Push at) = entry_pushed at
 
 -- what a state may lead to: by some choices the chip's step has this outcome, whatever choices are left
 abbrev pub StepsTo : Device → ChipState → Outcome ChipState → Type 0

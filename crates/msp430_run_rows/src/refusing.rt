@@ -11,6 +11,7 @@ pub fn is_refused(stepped: &Stepped, name: &str) -> bool {
         Stepped::Met(_) => false,
         Stepped::NeedChoice => name == "NeedChoice",
         Stepped::Wild(Wild::Store(place)) => front == "Store" && at == Some(*place),
+        Stepped::Wild(Wild::Push(place)) => front == "Push" && at == Some(*place),
         Stepped::Wild(Wild::NoInstr(NoInstr::OffImage(place))) => {
             front == "OffImage" && at == Some(*place)
         }
@@ -22,5 +23,6 @@ pub fn is_refused(stepped: &Stepped, name: &str) -> bool {
 pub fn is_refusal(end: &str) -> bool {
     matches!(end, "NeedChoice" | "Excluded")
         || end.starts_with("Store:")
+        || end.starts_with("Push:")
         || end.starts_with("OffImage:")
 }
