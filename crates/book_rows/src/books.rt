@@ -4,10 +4,11 @@ ghost use Rattle.std.specs.Prelude.{◌≡◌, IfOk};
 
 use crate::chip::{HANDLER, node_at, of_shape};
 use crate::shape::Shape;
+use book_rules::Event;
 use call_context::{Calls, Node, Unit};
 use chip_analysis::Chip;
 use no_memory::Memory;
-use round_core::{Book, Claimed, Done, Event};
+use round_core::{Book, Claimed, Done};
 use std::alloc::Global;
 use std::test::Fail;
 

@@ -22,17 +22,17 @@ ghost use Rattle.closed_book.specs.BookFacts.{ArePairs, IsItsTable};
 ghost use Rattle.closed_book.specs.Bounded.{AreBounded};
 ghost use Rattle.closed_book.specs.Broken.{IsBroken};
 ghost use Rattle.closed_book.specs.ClosedBook.{HaveSame, IsClosedBook, NoneIsOpen, table_in};
-ghost use Rattle.round_core.specs.Kept.{live_pairs, live_works, nodes_of};
-ghost use Rattle.round_core.specs.Machine.{replay, IsClosed, IsFinished, IsLegalJournal};
-ghost use Rattle.round_core.specs.Same.{same_node};
-ghost use Rattle.round_core.specs.declared.event.Event.{Event};
+ghost use Rattle.book_rules.specs.Kept.{live_pairs, live_works, nodes_of};
+ghost use Rattle.book_rules.specs.Machine.{replay, IsClosed, IsFinished, IsLegalJournal};
+ghost use Rattle.book_rules.specs.Same.{same_node};
+ghost use Rattle.book_rules.specs.declared.event.Event.{Event};
 
-use chip_analysis::{Chip, OrderlyChip};
-pub use closed::{ClosedBook, read_closed, read_closed_with_journal};
-use round_core::{
+use book_rules::{
     claims_are_bounded, closed_book_has_closed_table, finished_book_is_its_table,
     live_pairs_are_units, nodes_stay, rises_are_bounded, tests_tell_which_are_one,
 };
+use chip_analysis::{Chip, OrderlyChip};
+pub use closed::{ClosedBook, read_closed, read_closed_with_journal};
 
 /// What the laws of the book tell of a finished one: its pairs are its units with their last works, and its table is that of
 /// its units.

@@ -5,8 +5,8 @@ use Rattle.chip_analysis.specs.Analysis.{Analysis}
 use Rattle.round_core.specs.declared.ahead.Looked.{Looked}
 use Rattle.round_core.specs.declared.met.MetNode.{MetNode}
 use Rattle.round_core.specs.declared.ticket.Done.{Done}
-use Rattle.round_core.specs.Machine.{Held, held_at, risen_state}
-use Rattle.round_core.specs.Stays.{AllStay}
+use Rattle.book_rules.specs.Machine.{Held, held_at, risen_state}
+use Rattle.book_rules.specs.Stays.{AllStay}
 
 -- a node that was met is one of these
 abbrev pub IsMet : {A : Type 0} → List (Held A) → MetNode A → Type 0

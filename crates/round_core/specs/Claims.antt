@@ -7,8 +7,8 @@ use Rattle.call_context.specs.declared.node.Unit.{Unit as WorkUnit}
 use Rattle.call_context.specs.declared.node.Unit.TheVariants as unit
 use Rattle.round_core.specs.declared.place.Place.{Place}
 use Rattle.round_core.specs.declared.place.Place.TheVariants as place
-use Rattle.round_core.specs.declared.versions.Versions.{Versions}
-use Rattle.round_core.specs.Machine.{Held, Done, done_at, place_of, waits_for, versions_of}
+use Rattle.book_rules.specs.declared.versions.Versions.{Versions}
+use Rattle.book_rules.specs.Machine.{Held, Done, done_at, place_of, waits_for, versions_of}
 use Rattle.round_core.specs.Turns.{place_out}
 
 -- the unit of a location's own work

@@ -1,7 +1,7 @@
 -- The nodes of a book as rows of a table: the state is the value, and the rises are the mark.
 use Rattle.std.specs.Prelude.{ℕ}
 use Rattle.call_context.specs.declared.node.Node.{Node}
-use Rattle.round_core.specs.Machine.{Held}
+use Rattle.book_rules.specs.Machine.{Held}
 
 module _ {A : Type 0} where
   abbrev pub held_of : Node × (A × ℕ) → Held A

@@ -4,7 +4,7 @@ use Rattle.call_context.specs.declared.node.Node.{Node}
 use Rattle.round_core.specs.declared.raised.Risen.{Risen}
 use Rattle.round_core.specs.declared.raised.Raised.{Raised}
 use Rattle.round_core.specs.Agenda.{IsIn}
-use Rattle.round_core.specs.Machine.{Held, place_of, with_held}
+use Rattle.book_rules.specs.Machine.{Held, place_of, with_held}
 use Rattle.round_core.specs.Shown.{AreDistinct}
 
 module _ {A : Type 0} where

@@ -2,10 +2,10 @@
 
 ghost use Rattle.std.specs.Prelude.{◌≡◌, Some, IfOk, OnErr};
 ghost use Rattle.round_core.specs.Answers.{AnswersClaim};
-ghost use Rattle.round_core.specs.Kept.{with_event, IsOutOf};
-ghost use Rattle.round_core.specs.Machine.{Held, held_at, replay};
+ghost use Rattle.book_rules.specs.Kept.{with_event, IsOutOf};
+ghost use Rattle.book_rules.specs.Machine.{Held, held_at, replay};
 ghost use Rattle.round_core.specs.Tickets.{IsTicketOf};
-ghost use Rattle.round_core.specs.declared.event.Event.{Event};
+ghost use Rattle.book_rules.specs.declared.event.Event.{Event};
 
 use crate::book::Book;
 use crate::met::{Met, met_by};
@@ -13,7 +13,7 @@ use crate::nodes::Nodes;
 use crate::parts::Parts;
 use crate::place::Place;
 use crate::ticket::{Claimed, Ticket};
-use crate::versions::Versions;
+use book_rules::Versions;
 use call_context::{Node, Unit};
 use chip_analysis::Chip;
 use no_memory::Memory;

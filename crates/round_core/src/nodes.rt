@@ -2,7 +2,7 @@
 
 ghost use Rattle.std.specs.Prelude.{◌≡◌, ◌≤◌, ◌+◌, ◌<◌, [], map, nat_lt, if◌then◌else◌, IfOk, OnOk, IfSome, MatchOption, length, slice_get, Some, None, ◌^◌, ℕ};
 ghost use Rattle.std.specs.Option.{option_map};
-ghost use Rattle.round_core.specs.Machine.{Held, held_at, with_held, place_of, version_of};
+ghost use Rattle.book_rules.specs.Machine.{Held, held_at, with_held, place_of, version_of};
 ghost use Rattle.round_core.specs.Opening.{one_node};
 ghost use Rattle.round_core.specs.Raise.{held_rows, place_for, with_all, ArePlaced};
 
@@ -30,7 +30,7 @@ fn known_place(place: usize, len: usize) -> Option<usize>
 impl<A> Model for Nodes<A> {
     ghost use Rattle.std.specs.Prelude.{map};
     ghost use Rattle.round_core.specs.Rows.{Rows};
-    ghost use Rattle.round_core.specs.Machine.{Held};
+    ghost use Rattle.book_rules.specs.Machine.{Held};
     ghost use Rattle.round_core.specs.Nodes.{held_of};
 
     ghost Value = { Rows (Held A) };

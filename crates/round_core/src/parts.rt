@@ -4,11 +4,11 @@ ghost use Rattle.std.specs.Prelude.{count_by, min, false, filter, ◌≡◌, ◌
 ghost use Rattle.std.specs.List.{AllByRecursion};
 ghost use Rattle.std.specs.Option.{option_map};
 ghost use Rattle.round_core.specs.Agenda.{AreDifferent};
-ghost use Rattle.round_core.specs.Claimable.{HasAtLeast};
+ghost use Rattle.book_rules.specs.Claimable.{HasAtLeast};
 ghost use Rattle.round_core.specs.Former.{is_no_unit};
-ghost use Rattle.round_core.specs.Kept.{is_live};
+ghost use Rattle.book_rules.specs.Kept.{is_live};
 ghost use Rattle.round_core.specs.Claims.{one_of, back_of, unit_at, due_of, claimable_at, placed};
-ghost use Rattle.round_core.specs.Machine.{BookState, Out, done_at, out_at, versions_of, with_done, without, IsClaimable, IsFirst, IsFinished, NoneClaimable, HasClaimable};
+ghost use Rattle.book_rules.specs.Machine.{BookState, Out, done_at, out_at, versions_of, with_done, without, IsClaimable, IsFirst, IsFinished, NoneClaimable, HasClaimable};
 ghost use Rattle.round_core.specs.Turns.{place_out, TakesHome};
 ghost use Rattle.round_core.specs.Opening.{one_node};
 ghost use Rattle.round_core.specs.Shown.{Shows, StaysShown, found_at, is_new_return};
@@ -17,15 +17,14 @@ ghost use Rattle.round_core.specs.Raise.{held_rows, with_all, ArePlaced, RisesOv
 
 use crate::agenda::Agenda;
 use crate::candidates::add_all;
-use crate::event::Event;
 use crate::expect::{expect_raised, expect_unit};
 use crate::nodes::Nodes;
 use crate::place::Place;
 use crate::raised::Raised;
 use crate::spent::Spent;
 use crate::turns::Turns;
-use crate::versions::Versions;
 use crate::works::Works;
+use book_rules::{Event, Versions};
 use call_context::{Frame, Node, Unit};
 use chip_analysis::Work;
 use no_memory::Memory;

@@ -3,7 +3,7 @@
 ghost use Rattle.std.specs.Option.{option_map};
 ghost use Rattle.std.specs.Prelude.{◌≡◌, IfOk, IfSome, OnOk, MatchOption, Some, None};
 ghost use Rattle.round_core.specs.Ahead.{AreBefore, IsRow, IsStill};
-ghost use Rattle.round_core.specs.Machine.{held_at, place_of, risen_state, raised, all_raised};
+ghost use Rattle.book_rules.specs.Machine.{held_at, place_of, risen_state, raised, all_raised};
 ghost use Rattle.round_core.specs.Raise.{held_rows, with_all, RisesOver};
 
 use crate::ahead::{Ahead, Looked};

@@ -1,7 +1,7 @@
 //! The nodes that a post raises.
 
 ghost use Rattle.std.specs.Prelude.{◌≡◌, ◌==◌, ◌+◌, ◌<◌, [], List, IfOk, IfSome, OnOk, if◌then◌else◌, length};
-ghost use Rattle.round_core.specs.Machine.{Held, place_of, with_held};
+ghost use Rattle.book_rules.specs.Machine.{Held, place_of, with_held};
 ghost use Rattle.round_core.specs.Raise.{held_of, held_rows, place_for, with_all, RisesOver};
 
 use crate::key::same_node;

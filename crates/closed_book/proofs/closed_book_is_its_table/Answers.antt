@@ -1,4 +1,4 @@
-use Rattle.round_core.specs.Machine.{replay}
+use Rattle.book_rules.specs.Machine.{replay}
 use Rattle.closed_book.proofs.ClosedBooks.{closed_book}
 use Rattle.closed_book.proofs.closed_book_is_its_table.Goals as goal
 
