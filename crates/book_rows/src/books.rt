@@ -115,6 +115,33 @@ fn counts_to_the_top(rt: HostRuntime) -> Result<(), Fail> {
     Ok(())
 }
 
+/// Whether three turns in a row had a unit.
+fn take_three_turns<C: Chip>(
+    alloc: Global,
+    chip: &C,
+    book: &mut Book<C>,
+) -> Result<[bool; 3], Memory>
+    requires { C.base chip.now ≡ book.old.base }
+{
+    let first = take_turn(alloc, chip, book)?;
+    let second = take_turn(alloc, chip, book)?;
+    Ok([first, second, take_turn(alloc, chip, book)?])
+}
+
+/// The same of a new book, and its sizes then.
+fn three_turns<C: Chip>(alloc: Global, chip: &C) -> Result<([bool; 3], Sizes), Memory> {
+    let mut book = Book::open(alloc, chip)?;
+    let turns = take_three_turns(alloc, chip, &mut book)?;
+    Ok((turns, sizes(&book)))
+}
+
+#[test]
+fn a_loop_is_claimed_until_its_work_is_nothing_new(rt: HostRuntime) -> Result<(), Fail> {
+    let told = three_turns(rt.alloc(), &of_shape(Shape::Loop))?;
+    assert_eq!(rt; told, ([true, true, false], (true, 1, 1, 4)));
+    Ok(())
+}
+
 /// The bound of 64 rises is false for a chip of which nothing is known: here the only node rises at each post.
 #[test]
 fn rises_without_end(rt: HostRuntime) -> Result<(), Fail> {

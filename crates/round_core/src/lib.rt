@@ -20,8 +20,6 @@ mod raise;
 mod raised;
 mod spent;
 mod table;
-#[cfg(test)]
-mod tests;
 mod ticket;
 mod turns;
 mod works;
