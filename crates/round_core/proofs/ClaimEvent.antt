@@ -1,5 +1,5 @@
 -- The events of claims and give-backs.
-use Rattle.std.specs.Prelude.{◌≡◌, ℕ, Option, None, Some, List, [], ◌∷◌, ◌++◌, MatchOption}
+use Rattle.std.specs.Prelude.{◌≡◌, ℕ, Option, None, Some, List, [], ◌∷◌, ◌++◌}
 use Rattle.std.proofs.Common.{sym, ◌∙◌, ap, subst}
 use Rattle.std.proofs.Math.Path.{ap₂}
 use Rattle.call_context.specs.declared.node.Unit.{Unit as WorkUnit}
@@ -11,7 +11,7 @@ use Rattle.round_core.specs.declared.parts.Parts.{Parts}
 use Rattle.round_core.specs.declared.place.Place.{Place}
 use Rattle.book_rules.specs.declared.versions.Versions.{Versions}
 use Rattle.book_rules.specs.Machine.{BookState, Held, Out, out_at, without, with_out, inputs_of, versions_of, replay, IsClaimable, IsFirst, IsLegal, IsLegalJournal, NoneClaimable}
-use Rattle.round_core.specs.Claims.{placed}
+use Rattle.round_core.specs.Claims.{placed, IsNext}
 use Rattle.book_rules.specs.Kept.{Kept, with_event}
 use Rattle.round_core.specs.Shown.{Shows, IsBook, StaysShown}
 use Rattle.round_core.specs.Tickets.{IsTicketOf}
@@ -77,7 +77,7 @@ legal-more m journal journal' event more legal next = subst (IsLegalJournal m) (
 -- the first unit that can be claimed is taken out: the book behind that, and what the claim tells
 pub first_out : {A : Type 0} (m : Analysis A) (p q p' : Parts A) (seat : ℕ) (found : Option (Place × WorkUnit)) (place : Place) (u : WorkUnit) (t : Out A)
     → IsBook m p.turns.journal p → StaysShown p q → q.turns.journal ≡ p.turns.journal
-    → MatchOption found (NoneClaimable (replay m p.turns.journal)) (λ r. IsFirst (replay m p.turns.journal) r.1 × (placed (replay m p.turns.journal).nodes r.1 ≡ Some r.0))
+    → IsNext (replay m p.turns.journal) found
     → found ≡ Some (place, u) → IsTicketOf q.nodes.rows seat u t → p'.turns.journal ≡ q.turns.journal ++ Claim seat u ∷ []
     → ((b : BookState A) (o : Out A) → Shows b q → IsClaimable b u → placed b.nodes u ≡ Some place → o.unit ≡ u → Shows (record b { out = b.out ++ o ∷ [] }) p')
     → IsBook m p'.turns.journal p' × IsFirst (replay m p.turns.journal) u × (p'.turns.journal ≡ p.turns.journal ++ Claim seat u ∷ [])

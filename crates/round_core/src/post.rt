@@ -5,7 +5,7 @@ ghost use Rattle.round_core.specs.Ahead.{AreBefore, IsAhead};
 ghost use Rattle.book_rules.specs.Kept.{with_event, IsOutOf};
 ghost use Rattle.book_rules.specs.Machine.{Out, all_raised, replay};
 ghost use Rattle.round_core.specs.Prepared.{IsPrepared};
-ghost use Rattle.round_core.specs.Raise.{held_rows, with_all, ArePlaced};
+ghost use Rattle.round_core.specs.Raise.{held_rows, risen_over, ArePlaced};
 ghost use Rattle.round_core.specs.Shown.{StaysShown};
 ghost use Rattle.book_rules.specs.declared.event.Event.{Event};
 
@@ -30,8 +30,10 @@ fn prepare<C: Chip>(
     requires ahead { AreBefore (C.analysis (C.base chip.now)) parts.old.nodes.rows done.now.work.posts ahead }
     ensures shown { StaysShown parts.old parts.new }
     ensures journal { parts.new.turns.journal ≡ parts.old.turns.journal }
-    ensures raised { IfOk result (λ raised. with_all parts.old.nodes.rows (held_rows raised.rows.items) ≡ all_raised (C.analysis (C.base chip.now)) parts.old.nodes.rows done.now.work.posts) }
-    ensures prepared { IfOk result (λ raised. IsPrepared parts.old parts.new done.now.ticket.unit done.now.ticket.versions done.now.work.waits (held_rows raised.rows.items)) }
+    ensures raised { IfOk result (λ raised. risen_over parts.old.nodes.rows raised
+        ≡ all_raised (C.analysis (C.base chip.now)) parts.old.nodes.rows done.now.work.posts) }
+    ensures prepared { IfOk result (λ raised. IsPrepared parts.old parts.new done.now.ticket.unit
+        done.now.ticket.versions done.now.work.waits (held_rows raised.rows.items)) }
     ensures placed { IfOk result (λ raised. ArePlaced parts.old.nodes.rows raised.rows.items) }
 {
     let alloc = parts.nodes.allocator();
