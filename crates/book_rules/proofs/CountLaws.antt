@@ -5,15 +5,15 @@ use Rattle.std.proofs.lemmas.Bool.{cases_Bool, cases_lt}
 use Rattle.std.proofs.lemmas.Option.{same_Some}
 use Rattle.std.proofs.lemmas.List.Sums.{sum_by-cons}
 use Rattle.call_context.specs.declared.node.Unit.{Unit as WorkUnit}
+use Rattle.book_rules.specs.Sound.{AreInBounds, AreUpTo, IsSteady, IsWellDone, IsWellOut}
 use Rattle.book_rules.specs.Same.{same_unit}
 use Rattle.book_rules.specs.SameTests.{same_unit-refl, same_unit-eq}
 use Rattle.book_rules.specs.declared.versions.Versions.{Versions}
 use Rattle.book_rules.specs.declared.event.Event.{Event}
 use Rattle.book_rules.specs.declared.event.Event.TheVariants.{Claim, Post, GiveBack}
 use Rattle.chip_analysis.specs.Analysis.{Analysis, KeepsForm, TopIsGreatest}
-use Rattle.book_rules.proofs.RiseLaws.{AreInBounds}
-use Rattle.book_rules.proofs.EntryLaws.{AreUpTo, done_at-all, out_at-all, all-any, done_at-with_done, done_at-with_done_other, out_at-without, out_at-without_other, out_at-push, out_at-push_other}
-use Rattle.book_rules.proofs.ReplayLaws.{IsSteady, IsSteady-after, IsSteady-replay, IsSteady-opening, IsWellOut, IsWellDone, taken, after-claim, after-post, after-give_back, inputs_of-unit, versions_of-least, AreRisen, AreRisen-after}
+use Rattle.book_rules.proofs.EntryLaws.{done_at-all, out_at-all, all-any, done_at-with_done, done_at-with_done_other, out_at-without, out_at-without_other, out_at-push, out_at-push_other}
+use Rattle.book_rules.proofs.ReplayLaws.{IsSteady-after, IsSteady-replay, IsSteady-opening, taken, after-claim, after-post, after-give_back, inputs_of-unit, versions_of-least, AreRisen, AreRisen-after}
 use Rattle.book_rules.proofs.FormLaws.{IsInForm-replay, versions_of-most}
 use Rattle.book_rules.specs.Counts.{is_claim, is_post, is_give_back, anyone, outs}
 use Rattle.book_rules.specs.Machine.{BookState, Done, Out, done_at, out_at, versions_of, opening, with_done, without, after, replay_from, replay, IsUnit, IsClaimable, IsFirst, IsLegal, AllLegal, IsLegalJournal, HasRisen}

@@ -9,6 +9,7 @@ use Rattle.std.proofs.lemmas.Option.{same_Some}
 use Rattle.call_context.specs.declared.node.Node.{Node}
 use Rattle.call_context.specs.declared.node.Unit.{Unit as WorkUnit}
 use Rattle.call_context.specs.declared.node.Unit.TheVariants.{One, Back}
+use Rattle.book_rules.specs.Sound.{AreUpTo}
 use Rattle.book_rules.specs.Same.{same_unit}
 use Rattle.book_rules.specs.SameTests.{same_unit-refl, same_unit-eq}
 use Rattle.book_rules.specs.declared.versions.Versions.{Versions}
@@ -218,11 +219,6 @@ AreOutOnce-push (k ∷ os) o a e =
         AreOutOnce-push os o a.1 (sym (out_at-there k os o.unit f) ∙ e),
       )
     ]
-
--- versions of inputs that are no later than others
-pub record AreUpTo (old new : Versions) : Type 0 where
-  pub at : old.at ≤ new.at
-  pub exit : old.exit ≤ new.exit
 
 pub AreUpTo-refl : (v : Versions) → AreUpTo v v
 AreUpTo-refl v = record { at = omega arith; exit = omega arith }

@@ -6,10 +6,11 @@ use Rattle.call_context.specs.declared.node.Node.{Node}
 use Rattle.call_context.specs.declared.node.Node.TheVariants.{At, Exit}
 use Rattle.call_context.specs.declared.node.Unit.{Unit as WorkUnit}
 use Rattle.call_context.specs.declared.node.Unit.TheVariants.{One, Back}
+use Rattle.book_rules.specs.Sound.{AreInBounds, IsInForm, PostsAreFormed}
 use Rattle.book_rules.specs.declared.event.Event.{Event}
 use Rattle.book_rules.specs.declared.event.Event.TheVariants.{Claim, Post, GiveBack}
 use Rattle.chip_analysis.specs.Analysis.{Analysis, AreFormed, KeepsForm, TopIsGreatest}
-use Rattle.book_rules.proofs.RiseLaws.{PostsAreFormed, AreInBounds, held_at-in_bounds, all_raised-in_bounds}
+use Rattle.book_rules.proofs.RiseLaws.{held_at-in_bounds, all_raised-in_bounds}
 use Rattle.book_rules.proofs.HeldLaws.{option_map-some, held_at-node, version_of-held, version_of-none}
 use Rattle.book_rules.proofs.EntryLaws.{all_of, inputs_of-back, out_at-all, all-push, all-with_done, all-without}
 use Rattle.book_rules.proofs.ReplayLaws.{taken, after-claim, after-post, after-give_back, replay_from-keeps, inputs_of-unit}
@@ -20,11 +21,6 @@ pub posts-formed : {A : Type 0} (m : Analysis A) → KeepsForm m → (unit : Wor
     → PostsAreFormed m (m.work unit at exit).posts
 posts-formed m keeps unit at exit f =
     all_of (λ post. m.HasForm post.0 post.1) (m.work unit at exit).posts (λ post h. keeps.posts unit at exit post.0 post.1 f h)
-
-pub record IsInForm {A : Type 0} (m : Analysis A) (b : BookState A) : Type 0 where
-  pub nodes : AreInBounds m b.nodes
-  pub out : AllByRecursion (λ o. AreFormed m o.unit o.at o.exit) b.out
-  pub done : AllByRecursion (λ d. PostsAreFormed m d.work.posts) b.done
 
 -- a held state has the form of the node that it is asked for
 pub held_at-form : {A : Type 0} (m : Analysis A) (hs : List (Held A)) (node : Node) (h : Held A)

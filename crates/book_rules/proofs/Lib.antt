@@ -7,6 +7,7 @@ pub mod OutsLaws
 pub mod PlacedLaws
 pub mod ReplayLaws
 pub mod RiseLaws
+pub mod SoundLaws
 pub mod TableLaws
 pub mod WaitLaws
 pub mod WorkLaws

@@ -7,6 +7,7 @@ use Rattle.call_context.specs.declared.node.Node.TheVariants.{At, Exit}
 use Rattle.call_context.specs.declared.node.Unit.{Unit as WorkUnit}
 use Rattle.call_context.specs.declared.node.Unit.TheVariants.{One, Back}
 use Rattle.plain_lemmas.specs.Members.{in_none, in_cons, in_first, in_rest}
+use Rattle.book_rules.specs.Sound.{IsInForm, IsSteady, IsWellOut}
 use Rattle.book_rules.specs.Same.{same_unit}
 use Rattle.book_rules.specs.SameTests.{same_unit-eq}
 use Rattle.chip_analysis.specs.Analysis.{Analysis, AreFormed, KeepsForm, TopIsGreatest}
@@ -19,9 +20,9 @@ use Rattle.book_rules.specs.Stays.{AllStay}
 use Rattle.book_rules.specs.Table.{IsOfUnit}
 use Rattle.std.proofs.lemmas.Bool.{cases_Bool, cond-true, cond-false}
 use Rattle.book_rules.proofs.EntryLaws.{inputs_of-later, out_at-all, all-map, all-with_done}
-use Rattle.book_rules.proofs.FormLaws.{IsInForm, IsInForm-opening, IsInForm-after}
+use Rattle.book_rules.proofs.FormLaws.{IsInForm-opening, IsInForm-after}
 use Rattle.book_rules.specs.Staying.{AllStay-all_raised}
-use Rattle.book_rules.proofs.ReplayLaws.{IsWellOut, IsSteady, IsSteady-opening, IsSteady-after, inputs_of-unit, replay_from-keeps, after-claim, after-post, after-give_back}
+use Rattle.book_rules.proofs.ReplayLaws.{IsSteady-opening, IsSteady-after, inputs_of-unit, replay_from-keeps, after-claim, after-post, after-give_back}
 
 -- the works of pairs whose unit passes, and of a pair that passes or doesn't in front of them
 abbrev pairs_of : {A : Type 0} → List (Done A) → List (WorkUnit × Work A)

@@ -8,6 +8,7 @@ use Rattle.call_context.specs.declared.node.Unit.{Unit as WorkUnit}
 use Rattle.call_context.specs.declared.node.Unit.TheVariants.{One, Back}
 use Rattle.chip_analysis.specs.Analysis.{Analysis}
 use Rattle.chip_analysis.specs.declared.chip.Work.{Work}
+use Rattle.book_rules.specs.Sound.{AreDoneOnce, IsPlaced, IsThere}
 use Rattle.book_rules.specs.declared.event.Event.{Event}
 use Rattle.book_rules.specs.declared.event.Event.TheVariants.{Claim, Post, GiveBack}
 use Rattle.book_rules.specs.Kept.{is_live, live_pairs}
@@ -22,10 +23,6 @@ use Rattle.book_rules.proofs.HeldLaws.{option_map-some}
 use Rattle.book_rules.proofs.ReplayLaws.{taken, inputs_of-unit, replay_from-keeps, after-claim, after-post, after-give_back}
 use Rattle.book_rules.specs.SameTests.{same_unit-eq, same_unit-off, same_unit-refl}
 
-record IsThere {A : Type 0} (nodes : List (Held A)) (unit : WorkUnit) : Type 0 where
-  shape : IsOfLocation unit
-  inputs : (inputs : A × Option A) × (inputs_of nodes unit ≡ Some inputs)
-
 shape_of : {A : Type 0} (b : BookState A) (unit : WorkUnit) → IsUnit b unit → IsOfLocation unit
 shape_of b (One (At pc calls frame)) u = tt
 shape_of b (One (Exit pc frame)) u = absurd u
@@ -37,10 +34,6 @@ there_later : {A : Type 0} (hs ls : List (Held A)) (unit : WorkUnit) → AllStay
 there_later hs ls unit stay is = record { shape = is.shape; inputs = inputs_of-later hs ls unit is.inputs.0 stay is.inputs.1 }
 
 -- NONE WAS DONE TWICE
-abbrev AreDoneOnce : {A : Type 0} → List (Done A) → Type 0
-AreDoneOnce [] = Unit {0}
-AreDoneOnce (d ∷ ds) = (done_at ds d.unit ≡ None) × AreDoneOnce ds
-
 none_with_other : {A : Type 0} (ds : List (Done A)) (new : Done A) (u : WorkUnit) → same_unit u new.unit ≡ false → done_at ds u ≡ None
     → done_at (with_done ds new) u ≡ None
 none_with_other [] new u off none = cond-false _ _ _ off
@@ -78,14 +71,9 @@ found_done (x ∷ ds) once d i = elim (in_cons x ds d i) [
 ]
 
 -- THE BOOK
-record IsPlaced {A : Type 0} (b : BookState A) : Type 0 where
-  out : AllByRecursion (λ (o : Out A). IsThere b.nodes o.unit) b.out
-  done : AllByRecursion (λ (d : Done A). IsThere b.nodes d.unit) b.done
-  once : AreDoneOnce b.done
-
 module _ {A : Type 0} (m : Analysis A) where
-  behind_post : (b : BookState A) (o : Out A) → IsThere b.nodes o.unit → IsPlaced b → IsPlaced (posted m b (Some o))
-  behind_post b o there are =
+  IsPlaced-posted : (b : BookState A) (o : Out A) → IsThere b.nodes o.unit → IsPlaced b → IsPlaced (posted m b (Some o))
+  IsPlaced-posted b o there are =
       let work = m.work o.unit o.at o.exit in
       let ls : List (Held A) = all_raised m b.nodes work.posts in
       let stay : AllStay b.nodes ls = AllStay-all_raised m b.nodes work.posts in
@@ -98,8 +86,8 @@ module _ {A : Type 0} (m : Analysis A) where
         once = once_with_done b.done (record { unit = o.unit; work = work; versions = o.versions }) are.once;
       }
 
-  behind : (b : BookState A) (event : Event) → IsLegal b event → IsPlaced b → IsPlaced (after m b event)
-  behind b (Claim seat unit) legal are =
+  pub IsPlaced-after : (b : BookState A) (event : Event) → IsLegal b event → IsPlaced b → IsPlaced (after m b event)
+  IsPlaced-after b (Claim seat unit) legal are =
       let i = inputs_of-unit b unit legal.claimable.known in
       subst IsPlaced (sym (after-claim m b seat unit i.0 i.1)) (record {
         out = all-push (λ (o : Out A). IsThere b.nodes o.unit) b.out (taken b seat unit i.0) are.out
@@ -107,20 +95,22 @@ module _ {A : Type 0} (m : Analysis A) where
         done = are.done;
         once = are.once;
       })
-  behind b (Post seat unit) legal are =
+  IsPlaced-after b (Post seat unit) legal are =
       subst IsPlaced (sym (after-post m b seat unit legal.0 legal.1))
-      (behind_post b legal.0 (out_at-all (λ (o : Out A). IsThere b.nodes o.unit) b.out unit legal.0 are.out legal.1).0 are)
-  behind b (GiveBack seat unit) legal are =
+      (IsPlaced-posted b legal.0 (out_at-all (λ (o : Out A). IsThere b.nodes o.unit) b.out unit legal.0 are.out legal.1).0 are)
+  IsPlaced-after b (GiveBack seat unit) legal are =
       subst IsPlaced (sym (after-give_back m b seat unit))
       (record { out = all-without (λ (o : Out A). IsThere b.nodes o.unit) b.out unit are.out; done = are.done; once = are.once })
 
-  placed : (journal : List Event) → IsLegalJournal m journal → IsPlaced (replay m journal)
-  placed journal legal = replay_from-keeps m IsPlaced behind (opening m) journal legal (record { out = tt; done = tt; once = tt })
+  pub IsPlaced-opening : IsPlaced (opening m)
+  IsPlaced-opening = record { out = tt; done = tt; once = tt }
 
-  pub of_locations : (journal : List Event) → IsLegalJournal m journal
-      → AllByRecursion (λ (d : Done A). IsOfLocation d.unit) (replay m journal).done
-  of_locations journal legal = let b = replay m journal in
-      all-map (λ (d : Done A). IsThere b.nodes d.unit) (λ (d : Done A). IsOfLocation d.unit) (λ d is. is.shape) b.done (placed journal legal).done
+  pub IsPlaced-replay : (journal : List Event) → IsLegalJournal m journal → IsPlaced (replay m journal)
+  IsPlaced-replay journal legal = replay_from-keeps m IsPlaced IsPlaced-after (opening m) journal legal IsPlaced-opening
+
+pub of_locations : {A : Type 0} (b : BookState A) → IsPlaced b → AllByRecursion (λ (d : Done A). IsOfLocation d.unit) b.done
+of_locations {A = A} b are =
+    all-map (λ (d : Done A). IsThere b.nodes d.unit) (λ (d : Done A). IsOfLocation d.unit) (λ d is. is.shape) b.done are.done
 
 -- THE LIVE UNITS
 abbrev pair_of : {A : Type 0} → Done A → WorkUnit × Work A
@@ -184,23 +174,18 @@ distinct {A = A} live (d ∷ ds) once =
       | inr t ↦ subst (λ (ps : List (WorkUnit × Work A)). IsDistinct same_unit (keys_of ps)) (sym (cond-false _ _ _ t)) rest
     ]
 
-module _ {A : Type 0} (m : Analysis A) (journal : List Event) (legal : IsLegalJournal m journal) where
-  abbrev book : BookState A
-  book = replay m journal
+pub live_once : {A : Type 0} (b : BookState A) → IsPlaced b → IsDistinct same_unit (keys_of (live_pairs b))
+live_once b are = distinct (is_live b.done) b.done are.once
 
-  pub live_once : IsDistinct same_unit (keys_of (live_pairs book))
-  live_once = distinct (is_live book.done) book.done (placed m journal legal).once
-
-  pub live_unit : (unit : WorkUnit) (work : Work A) → Contains (live_pairs book) (unit, work)
-      → IsUnit book unit × (d : Done A) × (done_at book.done unit ≡ Some d) × (d.work ≡ work)
-  live_unit unit work there =
-      let is = of_done (is_live book.done) book.done (unit, work) there in
-      let p = placed m journal legal in
-      let unit_is : is.was.unit ≡ unit = sym (ap (λ (q : WorkUnit × Work A). q.0) is.is_pair) in
-      let work_is : is.was.work ≡ work = sym (ap (λ (q : WorkUnit × Work A). q.1) is.is_pair) in (
-        subst (IsUnit book) unit_is
-            (unit_there book is.was.unit (each_of (λ (d : Done A). IsThere book.nodes d.unit) book.done is.was p.done is.is_in) is.alive),
-        is.was,
-        subst (λ u. done_at book.done u ≡ Some is.was) unit_is (found_done book.done p.once is.was is.is_in),
-        work_is,
-      )
+pub live_unit : {A : Type 0} (b : BookState A) → IsPlaced b → (unit : WorkUnit) (work : Work A) → Contains (live_pairs b) (unit, work)
+    → IsUnit b unit × (d : Done A) × (done_at b.done unit ≡ Some d) × (d.work ≡ work)
+live_unit b are unit work there =
+    let is = of_done (is_live b.done) b.done (unit, work) there in
+    let unit_is : is.was.unit ≡ unit = sym (ap (λ (q : WorkUnit × Work _). q.0) is.is_pair) in
+    let work_is : is.was.work ≡ work = sym (ap (λ (q : WorkUnit × Work _). q.1) is.is_pair) in (
+      subst (IsUnit b) unit_is
+          (unit_there b is.was.unit (each_of (λ (d : Done _). IsThere b.nodes d.unit) b.done is.was are.done is.is_in) is.alive),
+      is.was,
+      subst (λ u. done_at b.done u ≡ Some is.was) unit_is (found_done b.done are.once is.was is.is_in),
+      work_is,
+    )

@@ -8,13 +8,14 @@ use Rattle.call_context.specs.declared.node.Node.{Node}
 use Rattle.call_context.specs.declared.node.Node.TheVariants.{At, Exit}
 use Rattle.call_context.specs.declared.node.Unit.{Unit as WorkUnit}
 use Rattle.call_context.specs.declared.node.Unit.TheVariants.{One, Back}
+use Rattle.book_rules.specs.Sound.{IsSteady, IsWellDone, IsWellOut}
 use Rattle.book_rules.specs.Same.{same_node}
 use Rattle.chip_analysis.specs.Analysis.{Analysis}
 use Rattle.book_rules.specs.declared.event.Event.{Event}
 use Rattle.book_rules.specs.declared.event.Event.TheVariants.{Claim, Post, GiveBack}
 use Rattle.book_rules.proofs.HeldLaws.{AreApart-all_raised, place_of-held, place_of-one, raised-here, raised-there, held_at-all, version_of-held}
 use Rattle.book_rules.specs.Staying.{AllStay-refl, AllStay-trans, AllStay-all_raised, Stays-risen}
-use Rattle.book_rules.proofs.EntryLaws.{AreOutOnce-push, AreOutOnce-without, AreUpTo, AreUpTo-refl, AreUpTo-trans, versions-between, versions_of-later, inputs_of-found, inputs_of-later, inputs_of-same, out_at-all, all-map, all-push, all-with_done, all-without}
+use Rattle.book_rules.proofs.EntryLaws.{AreOutOnce-push, AreOutOnce-without, AreUpTo-refl, AreUpTo-trans, versions-between, versions_of-later, inputs_of-found, inputs_of-later, inputs_of-same, out_at-all, all-map, all-push, all-with_done, all-without}
 use Rattle.book_rules.specs.Counts.{AreApart, AreOutOnce}
 use Rattle.book_rules.specs.Machine.{BookState, Held, Done, Out, out_at, held_at, place_of, version_of, versions_of, inputs_of, opening, posted, risen, raised, all_raised, with_out, without, after, replay_from, replay, IsUnit, IsFirst, IsBelow, ComesBefore, IsLegal, AllLegal, IsLegalJournal, IsFinished}
 use Rattle.book_rules.specs.Stays.{AllStay}
@@ -106,26 +107,6 @@ inputs_of-unit b (Back (At pc calls frame) (Exit from left)) u =
     (((u.0).state, Some (u.1).state), inputs_of-found b.nodes (At pc calls frame) (Exit from left) u.0 u.1 u.2 u.3)
 inputs_of-unit b (Back (At pc calls frame) (At from calls' frame')) u = absurd u
 inputs_of-unit b (Back (Exit pc frame) exit) u = absurd u
-
--- A unit that is out has its inputs, what was copied is what they are until one rises, and the nodes that were have stayed.
-pub record IsWellOut {A : Type 0} (nodes : List (Held A)) (o : Out A) : Type 0 where
-  pub there : (inputs : A × Option A) × (inputs_of nodes o.unit ≡ Some inputs)
-  pub known : AreUpTo o.versions (versions_of nodes o.unit)
-  pub copied : versions_of nodes o.unit ≡ o.versions → inputs_of nodes o.unit ≡ Some (o.at, o.exit)
-  pub stay : AllStay o.nodes nodes
-
--- the last work of a unit is that of its inputs, until one rises
-pub record IsWellDone {A : Type 0} (m : Analysis A) (nodes : List (Held A)) (d : Done A) : Type 0 where
-  pub known : AreUpTo d.versions (versions_of nodes d.unit)
-  pub worked : versions_of nodes d.unit ≡ d.versions
-      → (inputs : A × Option A) × (inputs_of nodes d.unit ≡ Some inputs) × (d.work ≡ m.work d.unit inputs.0 inputs.1)
-
--- What holds behind every legal journal, whatever the chip means.
-pub record IsSteady {A : Type 0} (m : Analysis A) (b : BookState A) : Type 0 where
-  pub apart : AreApart b.nodes
-  pub once : AreOutOnce b.out
-  pub out : AllByRecursion (IsWellOut b.nodes) b.out
-  pub done : AllByRecursion (IsWellDone m b.nodes) b.done
 
 pub IsWellOut-later : {A : Type 0} (hs ls : List (Held A)) (o : Out A) → AllStay hs ls → IsWellOut hs o → IsWellOut ls o
 IsWellOut-later hs ls o s w = record {

@@ -4,6 +4,7 @@ use Rattle.std.specs.List.{AllByRecursion}
 use Rattle.std.proofs.Common.{refl, sym, ◌∙◌, ap, subst, inl, inr, arith}
 use Rattle.std.proofs.lemmas.Bool.{cases_Bool, cond-true, cond-false, false≢true, cond_both, cases_lt}
 use Rattle.call_context.specs.declared.node.Node.{Node}
+use Rattle.book_rules.specs.Sound.{AreInBounds, AreUnder, IsInBounds, PostsAreFormed}
 use Rattle.book_rules.specs.Same.{same_node}
 use Rattle.book_rules.specs.SameTests.{same_node-eq}
 use Rattle.chip_analysis.specs.Analysis.{Analysis, KeepsForm, TopIsGreatest, IsOrdered}
@@ -11,20 +12,6 @@ use Rattle.book_rules.specs.Table.{IsUnder}
 use Rattle.book_rules.specs.Machine.{Held, held_at, risen_state, risen, raised, all_raised}
 use Rattle.book_rules.proofs.HeldLaws.{held_at-all, held_at-node, held_at-raised, held_at-raised_other, raised-here, raised-there, entry_after}
 use Rattle.book_rules.specs.Staying.{Stays-risen}
-
--- each posted state has the form of its node
-abbrev pub PostsAreFormed : {A : Type 0} → Analysis A → List (Node × A) → Type 0
-PostsAreFormed m posts = AllByRecursion (λ post. m.HasForm post.0 post.1) posts
-
--- an entry whose rises are in bounds, with a state of the form
-pub record IsInBounds {A : Type 0} (m : Analysis A) (h : Held A) : Type 0 where
-  pub least : 1 ≤ h.rises
-  pub most : h.rises ≤ 64
-  pub last : h.rises ≡ 64 → h.state ≡ m.top h.node
-  pub form : m.HasForm h.node h.state
-
-abbrev pub AreInBounds : {A : Type 0} → Analysis A → List (Held A) → Type 0
-AreInBounds m nodes = AllByRecursion (IsInBounds m) nodes
 
 pub held_at-in_bounds : {A : Type 0} (m : Analysis A) (hs : List (Held A)) (node : Node) (h : Held A)
     → AreInBounds m hs → held_at hs node ≡ Some h → IsInBounds m h
@@ -79,9 +66,6 @@ pub all_raised-in_bounds : {A : Type 0} (m : Analysis A) → KeepsForm m → Top
 all_raised-in_bounds m keeps top hs [] a f = a
 all_raised-in_bounds m keeps top hs (post ∷ posts) a f =
     all_raised-in_bounds m keeps top (raised m hs post) posts (raised-in_bounds m keeps top hs post a f.0) f.1
-
-abbrev pub AreUnder : {A : Type 0} → Analysis A → List (Held A) → List (Node × A) → Type 0
-AreUnder m hs posts = AllByRecursion (IsUnder m hs) posts
 
 -- both the held state and the posted one are within the risen one
 risen-above : {A : Type 0} (m : Analysis A) → IsOrdered m → (h : Held A) (posted : A)

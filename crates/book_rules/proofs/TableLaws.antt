@@ -8,18 +8,17 @@ use Rattle.call_context.specs.declared.node.Node.{Node}
 use Rattle.call_context.specs.declared.node.Node.TheVariants.{At, Exit}
 use Rattle.call_context.specs.declared.node.Unit.{Unit as WorkUnit}
 use Rattle.call_context.specs.declared.node.Unit.TheVariants.{One, Back}
+use Rattle.book_rules.specs.Sound.{IsInForm, IsSound, IsSteady}
 use Rattle.book_rules.specs.Same.{same_frame}
 use Rattle.book_rules.proofs.HeldLaws.{option_map-some}
 use Rattle.book_rules.proofs.EntryLaws.{each_of, inputs_of-found}
-use Rattle.book_rules.proofs.ReplayLaws.{IsSteady}
-use Rattle.book_rules.proofs.WorkLaws.{IsServed, finished-done, finished-under}
-use Rattle.chip_analysis.specs.Analysis.{Analysis, KeepsForm, TopIsGreatest}
+use Rattle.book_rules.proofs.WorkLaws.{finished-done, finished-under}
+use Rattle.chip_analysis.specs.Analysis.{Analysis}
 use Rattle.chip_analysis.specs.Table.{IsUnitOver, IsHeldIn, IsClosedTable, IsFormedTable}
 use Rattle.book_rules.specs.Table.{table_of, IsUnder}
-use Rattle.book_rules.proofs.FormLaws.{IsInForm-replay, held_at-form}
+use Rattle.book_rules.proofs.FormLaws.{held_at-form}
 use Rattle.book_rules.proofs.WaitLaws.{waits_found, any_waits}
-use Rattle.book_rules.specs.Machine.{BookState, Held, Done, held_at, done_at, inputs_of, waits_for, IsUnit, IsFinished, IsClosed, replay, IsLegalJournal}
-use Rattle.book_rules.specs.declared.event.Event.{Event}
+use Rattle.book_rules.specs.Machine.{BookState, Held, Done, held_at, done_at, inputs_of, waits_for, IsUnit, IsFinished, IsClosed}
 
 -- the states that a table has are those of the nodes
 pub at-held : {A : Type 0} (nodes : List (Held A)) (node : Node) (at : A) → table_of nodes node ≡ Some at
@@ -75,9 +74,8 @@ work-present m b f s unit at exit u e =
     let i = same_Some _ _ (sym w.1 ∙ e) in
     (r.0, r.1, w.2 ∙ ap (λ x. m.work unit x.0 x.1) i)
 
-pub closed-table : {A : Type 0} (m : Analysis A) (b : BookState A) → IsClosed b → IsSteady m b → IsServed m b
-    → IsClosedTable m (table_of b.nodes)
-closed-table m b c s v = record {
+pub closed-table : {A : Type 0} (m : Analysis A) (b : BookState A) → IsClosed b → IsSound m b → IsClosedTable m (table_of b.nodes)
+closed-table m b c is = let s = is.steady in let v = is.served in record {
   started = held-in m b.nodes (m.first_node, m.first_state) v.start;
   no_open = λ unit at exit o. let u = unit-of_table m b c.finished s unit at exit o in
       let d = work-present m b c.finished s unit at exit u.0 u.1 in
@@ -88,10 +86,9 @@ closed-table m b c s v = record {
       (finished-under m b unit d.0 v d.1) (subst (λ w. Contains w.posts (node, state)) (sym d.2) h));
 }
 
-pub formed-table : {A : Type 0} (m : Analysis A) → KeepsForm m → TopIsGreatest m → (journal : List Event) → IsLegalJournal m journal
-    → IsFormedTable m (table_of (replay m journal).nodes)
-formed-table m keeps top journal l = λ node state e. let h = at-held (replay m journal).nodes node state e in
-    subst (m.HasForm node) h.2 (held_at-form m (replay m journal).nodes node h.0 (IsInForm-replay m keeps top journal l).nodes h.1)
+pub formed-table : {A : Type 0} (m : Analysis A) (b : BookState A) → IsInForm m b → IsFormedTable m (table_of b.nodes)
+formed-table m b formed = λ node state e. let h = at-held b.nodes node state e in
+    subst (m.HasForm node) h.2 (held_at-form m b.nodes node h.0 formed.nodes h.1)
 
 -- A unit of the table is one of the finished book, whose last work is the work over the table's states,
 pub table-unit : {A : Type 0} (m : Analysis A) (b : BookState A) → IsFinished b → IsSteady m b

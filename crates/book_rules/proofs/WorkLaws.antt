@@ -3,15 +3,16 @@ use Rattle.std.specs.Prelude.{◌≡◌, Option, None, Some, List, [], ◌∷◌
 use Rattle.std.specs.List.{AllByRecursion}
 use Rattle.std.proofs.Common.{refl, sym, ap, subst}
 use Rattle.call_context.specs.declared.node.Unit.{Unit as WorkUnit}
+use Rattle.book_rules.specs.Sound.{AreUnder, IsInForm, IsServed, IsSteady, IsWellDone, PostsAreFormed}
 use Rattle.book_rules.specs.SameTests.{same_node-refl}
 use Rattle.book_rules.specs.declared.event.Event.{Event}
 use Rattle.book_rules.specs.declared.event.Event.TheVariants.{Claim, Post, GiveBack}
 use Rattle.chip_analysis.specs.Analysis.{Analysis, AreFormed, KeepsForm, IsOrdered}
-use Rattle.book_rules.proofs.RiseLaws.{PostsAreFormed, AreUnder, AreUnder-all_raised, IsUnder-all_raised, all_raised-under}
+use Rattle.book_rules.proofs.RiseLaws.{AreUnder-all_raised, IsUnder-all_raised, all_raised-under}
 use Rattle.book_rules.specs.Staying.{held_at-here}
 use Rattle.book_rules.proofs.EntryLaws.{out_at-all, done_at-all, all-with_done, up_to-unless_risen}
-use Rattle.book_rules.proofs.ReplayLaws.{IsSteady, IsWellDone, after-claim, after-post, after-give_back, inputs_of-unit}
-use Rattle.book_rules.proofs.FormLaws.{posts-formed, IsInForm, IsInForm-after, IsInForm-opening}
+use Rattle.book_rules.proofs.ReplayLaws.{after-claim, after-post, after-give_back, inputs_of-unit}
+use Rattle.book_rules.proofs.FormLaws.{posts-formed, IsInForm-after, IsInForm-opening}
 use Rattle.book_rules.specs.Table.{IsUnder, IsWorkOf}
 use Rattle.book_rules.specs.Machine.{BookState, Done, Out, done_at, out_at, all_raised, versions_of, opening, posted, after, replay_from, replay, IsUnit, IsFinished, IsLegal, AllLegal, IsLegalJournal, HasRisen}
 
@@ -39,17 +40,12 @@ pub finished-done : {A : Type 0} (m : Analysis A) (b : BookState A) (unit : Work
     → (d : Done A) × (done_at b.done unit ≡ Some d) × IsWorkOf m b.nodes unit d.work
 finished-done m b unit f s u = done-by m b unit f s u (done_at b.done unit) refl
 
--- The start state and each post of a last work are under their nodes.
-pub record IsServed {A : Type 0} (m : Analysis A) (b : BookState A) : Type 0 where
-  pub start : IsUnder m b.nodes (m.first_node, m.first_state)
-  pub done : AllByRecursion (λ d. AreUnder m b.nodes d.work.posts) b.done
-
 all-both : {X : Type 0} (P Q R : X → Type 0) → ((x : X) → P x → Q x → R x) → (xs : List X) → AllByRecursion P xs
     → AllByRecursion Q xs → AllByRecursion R xs
 all-both P Q R f [] p q = tt
 all-both P Q R f (x ∷ xs) p q = (f x p.0 q.0, all-both P Q R f xs p.1 q.1)
 
-IsServed-opening : {A : Type 0} (m : Analysis A) → KeepsForm m → IsOrdered m → IsServed m (opening m)
+pub IsServed-opening : {A : Type 0} (m : Analysis A) → KeepsForm m → IsOrdered m → IsServed m (opening m)
 IsServed-opening m keeps o = record {
   start = (
     record { node = m.first_node; state = m.first_state; rises = 1 },
@@ -84,18 +80,6 @@ IsServed-after m keeps o b (Post seat unit) l i s =
     (IsServed-posted m keeps o b l.0 (out_at-all (λ x. AreFormed m x.unit x.at x.exit) b.out unit l.0 i.out l.1).0 i s)
 IsServed-after m keeps o b (GiveBack seat unit) l i s =
     subst (IsServed m) (sym (after-give_back m b seat unit)) (record { start = s.start; done = s.done })
-
-IsServed-replay_from : {A : Type 0} (m : Analysis A) → KeepsForm m → IsOrdered m
-    → (b : BookState A) (es : List Event) → AllLegal m b es → IsInForm m b → IsServed m b → IsServed m (replay_from m b es)
-unfolding replay_from AllLegal
-IsServed-replay_from m keeps o b [] l i s = s
-IsServed-replay_from m keeps o b (e ∷ es) l i s =
-    IsServed-replay_from m keeps o (after m b e) es l.1 (IsInForm-after m keeps o.topped b e l.0 i) (IsServed-after m keeps o b e l.0 i s)
-
-pub IsServed-replay : {A : Type 0} (m : Analysis A) → KeepsForm m → IsOrdered m
-    → (journal : List Event) → IsLegalJournal m journal → IsServed m (replay m journal)
-IsServed-replay m keeps o journal l =
-    IsServed-replay_from m keeps o (opening m) journal l (IsInForm-opening m keeps) (IsServed-opening m keeps o)
 
 -- what the work of a unit of a finished book posts is under the nodes
 pub finished-under : {A : Type 0} (m : Analysis A) (b : BookState A) (unit : WorkUnit) (d : Done A) → IsServed m b

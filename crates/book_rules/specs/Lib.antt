@@ -5,6 +5,7 @@ pub mod Machine
 pub mod Replays
 pub mod Same
 pub mod SameTests
+pub mod Sound
 pub mod Staying
 pub mod Stays
 pub mod Table

@@ -13,8 +13,9 @@ ghost use Rattle.chip_analysis.specs.declared.chip.Work.{Work};
 ghost use Rattle.book_rules.specs.declared.event.Event.{Event as AnEvent};
 ghost use Rattle.book_rules.specs.declared.event.Event.TheVariants.{Claim, Post, GiveBack};
 ghost use Rattle.book_rules.specs.Kept.{live_pairs, live_works};
-ghost use Rattle.book_rules.specs.Machine.{BookState, Held, Done, Out, versions_of, HasRisen, IsClaimable, held_at, done_at, out_at, place_of, version_of, IsFirst, IsOfLocation, IsUnit, IsFinished, IsClosed, IsLegal, IsLegalJournal, replay};
+ghost use Rattle.book_rules.specs.Machine.{BookState, Held, Done, Out, versions_of, HasRisen, IsClaimable, held_at, done_at, out_at, place_of, version_of, IsFirst, IsOfLocation, IsUnit, IsFinished, IsClosed, IsLegal, IsLegalJournal, after, opening, replay};
 ghost use Rattle.book_rules.specs.Same.{same_unit};
+ghost use Rattle.book_rules.specs.Sound.{IsSound};
 ghost use Rattle.book_rules.specs.Stays.{AllStay};
 ghost use Rattle.book_rules.specs.Table.{table_of, IsUnder, IsWorkOf, IsOfUnit};
 ghost use Rattle.book_rules.specs.Counts.{anyone, outs, claims_of, posts_of, give_backs_of, claims_by, posts_by, give_backs_by, AreApart, AreOutOnce, NoneOfSeat, unit_of};
@@ -115,6 +116,16 @@ pub fn turns_bring_home<C: Chip>()
         (journal : List AnEvent) (seat : ℕ) (unit : WorkUnit) → IsFirst (replay a journal) unit
         → (replay a journal).out ≡ []
         → (replay a ((journal ++ Claim seat unit ∷ []) ++ Post seat unit ∷ [])).out ≡ []) }
+{}
+
+/// The same of any book, however it came about.
+pub fn turns_come_home<C: Chip>()
+    ensures post { (base : C.Base) → (let a = C.analysis base in
+        (b : BookState C.Abs) (seat : ℕ) (unit : WorkUnit) → IsFirst b unit → b.out ≡ []
+        → IsLegal (after a b (Claim seat unit)) (Post seat unit)) }
+    ensures home { (base : C.Base) → (let a = C.analysis base in
+        (b : BookState C.Abs) (seat : ℕ) (unit : WorkUnit) → IsFirst b unit → b.out ≡ []
+        → (after a (after a b (Claim seat unit)) (Post seat unit)).out ≡ []) }
 {}
 
 /// The first unit that can be claimed is one alone.
@@ -221,4 +232,42 @@ pub fn units_come_again<C: Chip>()
         (journal : List AnEvent) (seat : ℕ) (unit : WorkUnit) (o : Out C.Abs)
         → IsLegalJournal a journal → out_at (replay a journal).out unit ≡ Some o
         → (let later = replay a (journal ++ GiveBack seat unit ∷ []) in IsUnit later unit → IsClaimable later unit)) }
+{}
+
+/// A book that is sound (`specs/Sound.antt`) stays so behind each legal event, wherever it began. The opening is sound, and so is
+/// what a legal journal replays to.
+pub fn sound_books_stay<C: Chip>()
+    ensures opening { (base : C.Base) → (let a = C.analysis base in
+        KeepsForm a → IsOrdered a → IsSound a (opening a)) }
+    ensures event { (base : C.Base) → (let a = C.analysis base in
+        (b : BookState C.Abs) (event : AnEvent) → KeepsForm a → IsOrdered a → IsLegal b event
+        → IsSound a b → IsSound a (after a b event)) }
+    ensures replay { (base : C.Base) → (let a = C.analysis base in
+        (journal : List AnEvent) → KeepsForm a → IsOrdered a → IsLegalJournal a journal
+        → IsSound a (replay a journal)) }
+{}
+
+/// The table of a sound book is formed, and closed where the book is. Where the book is finished, its units are those of its
+/// table, with their works over the table's states. Each of its live pairs is a unit of it with its last work, and none stands twice.
+pub fn sound_books_are_their_tables<C: Chip>()
+    ensures formed { (base : C.Base) → (let a = C.analysis base in
+        (b : BookState C.Abs) → IsSound a b → IsFormedTable a (table_of b.nodes)) }
+    ensures closed { (base : C.Base) → (let a = C.analysis base in
+        (b : BookState C.Abs) → IsSound a b → IsClosed b → IsClosedTable a (table_of b.nodes)) }
+    ensures units { (base : C.Base) → (let a = C.analysis base in
+        (b : BookState C.Abs) (unit : WorkUnit) → IsSound a b → IsFinished b → IsUnit b unit
+        → (at : C.Abs) × (exit : Option C.Abs) × IsUnitOver a (table_of b.nodes) unit at exit) }
+    ensures known { (base : C.Base) → (let a = C.analysis base in
+        (b : BookState C.Abs) (unit : WorkUnit) (at : C.Abs) (exit : Option C.Abs) → IsSound a b → IsFinished b
+        → IsUnitOver a (table_of b.nodes) unit at exit → IsUnit b unit) }
+    ensures works { (base : C.Base) → (let a = C.analysis base in
+        (b : BookState C.Abs) (unit : WorkUnit) (at : C.Abs) (exit : Option C.Abs) → IsSound a b → IsFinished b
+        → IsUnitOver a (table_of b.nodes) unit at exit
+        → (d : Done C.Abs) × (done_at b.done unit ≡ Some d) × (d.work ≡ a.work unit at exit)) }
+    ensures live { (base : C.Base) → (let a = C.analysis base in
+        (b : BookState C.Abs) (unit : WorkUnit) (work : Work C.Abs) → IsSound a b
+        → Contains (live_pairs b) (unit, work)
+        → IsUnit b unit × (d : Done C.Abs) × (done_at b.done unit ≡ Some d) × (d.work ≡ work)) }
+    ensures once { (base : C.Base) → (let a = C.analysis base in
+        (b : BookState C.Abs) → IsSound a b → IsDistinct same_unit (keys_of (live_pairs b))) }
 {}

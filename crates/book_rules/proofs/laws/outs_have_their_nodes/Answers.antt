@@ -1,5 +1,6 @@
+use Rattle.book_rules.specs.Sound.{IsWellOut}
 use Rattle.book_rules.proofs.EntryLaws.{out_at-all}
-use Rattle.book_rules.proofs.ReplayLaws.{IsSteady-replay, IsWellOut}
+use Rattle.book_rules.proofs.ReplayLaws.{IsSteady-replay}
 use Rattle.book_rules.specs.Machine.{replay}
 use Rattle.book_rules.proofs.laws.outs_have_their_nodes.Goals as goal
 

@@ -1,9 +1,9 @@
 use Rattle.std.specs.Prelude.{◌≤◌}
+use Rattle.book_rules.specs.Sound.{IsInBounds}
 use Rattle.book_rules.proofs.EntryLaws.{all-map}
 use Rattle.book_rules.proofs.FormLaws.{IsInForm-replay}
 use Rattle.book_rules.specs.Machine.{replay}
 use Rattle.book_rules.proofs.ReplayLaws.{AreRisen-replay}
-use Rattle.book_rules.proofs.RiseLaws.{IsInBounds}
 use Rattle.book_rules.proofs.laws.rises_are_bounded.Goals as goal
 
 pub returns-clause-least : goal.returns-clause-least
