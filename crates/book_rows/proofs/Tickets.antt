@@ -3,8 +3,8 @@ use Rattle.std.proofs.Common.{◌≡◌, Bool, List, [], ◌∷◌, ◌++◌, So
 use Rattle.std.specs.List.{AllByRecursion, IsDistinct}
 use Rattle.chip_analysis.specs.Analysis.{Analysis}
 use Rattle.fact_table.specs.Seats.{AreOutTo}
-use Rattle.round_core.specs.Machine.{Out}
-use Rattle.round_core.specs.declared.event.Event.{Event}
+use Rattle.book_rules.specs.Machine.{Out}
+use Rattle.book_rules.specs.declared.event.Event.{Event}
 use Rattle.turn_table.specs.Shown.{ShownSeat}
 
 all_back : {X : Type 0} (P : X → Type 0) → (xs ys : List X) → AllByRecursion P (xs ++ ys) → AllByRecursion P ys

@@ -1,8 +1,8 @@
--- Small chips for rows, whose states are numbers. One counts, one counts at two locations, one never comes to rest, and the others
--- have a chain of locations, a tree, an interrupt, and locations that race.
+-- Small chips for rows, whose states are numbers. One counts, one loops, one counts at two locations, one never comes to rest, and
+-- the others have a chain of locations, a tree, an interrupt, and locations that race.
 use Rattle.std.specs.Prelude.{ℕ, ◌+◌, ◌*◌, ◌≤◌, ◌==◌, Bool, true, false, Some, nat_le, nat_lt, if◌then◌else◌, List, [], ◌∷◌, max, min}
 use Rattle.book_rows.specs.declared.shape.Shape.{Shape}
-use Rattle.book_rows.specs.declared.shape.Shape.TheVariants.{Counting, Pair, Restless, Chain, Tree, Interrupted, Racing}
+use Rattle.book_rows.specs.declared.shape.Shape.TheVariants.{Counting, Loop, Pair, Restless, Chain, Tree, Interrupted, Racing}
 use Rattle.call_context.specs.declared.node.Frame.{Frame}
 use Rattle.call_context.specs.declared.node.Frame.TheVariants.{Base, Irq}
 use Rattle.call_context.specs.declared.node.Node.{Node}
@@ -72,6 +72,7 @@ racing pc at =
 -- what a location of a shape posts
 abbrev pub location_work : Shape → ℕ → ℕ → Work ℕ
 location_work Counting pc at = counting at
+location_work Loop pc at = posting ((node_at 0, 1) ∷ [])
 location_work Pair pc at = pairing pc at
 location_work Restless pc at = counting at
 location_work (Chain end) pc at = leading end pc
@@ -86,6 +87,7 @@ located shape (Back node exit) at = posting []
 
 abbrev pub work_of : Shape → WorkUnit → ℕ → Work ℕ
 work_of Counting unit at = located Counting unit at
+work_of Loop unit at = located Loop unit at
 work_of Pair unit at = located Pair unit at
 work_of Restless unit at = located Restless unit at
 work_of (Chain end) unit at = located (Chain end) unit at
@@ -96,6 +98,7 @@ work_of Racing unit at = located Racing unit at
 -- a number is within each that is no less; of the restless chip none is within another
 abbrev pub within_of : Shape → ℕ → ℕ → Bool
 within_of Counting = nat_le
+within_of Loop = nat_le
 within_of Pair = nat_le
 within_of Restless = λ new held. false
 within_of (Chain end) = nat_le

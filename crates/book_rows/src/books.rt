@@ -4,10 +4,11 @@ ghost use Rattle.std.specs.Prelude.{◌≡◌, IfOk};
 
 use crate::chip::{HANDLER, node_at, of_shape};
 use crate::shape::Shape;
+use book_rules::Event;
 use call_context::{Calls, Node, Unit};
 use chip_analysis::Chip;
 use no_memory::Memory;
-use round_core::{Book, Claimed, Done, Event};
+use round_core::{Book, Claimed, Done};
 use std::alloc::Global;
 use std::test::Fail;
 
@@ -111,6 +112,33 @@ fn counts_to_the_top(rt: HostRuntime) -> Result<(), Fail> {
         ((true, 1, 1, 128), (14, 32, 16, 1))
     );
     assert!(rt; has_nodes_behind(rt.alloc(), &chip, 1_000, &[(node_at(0), u32::MAX)])?);
+    Ok(())
+}
+
+/// Whether three turns in a row had a unit.
+fn take_three_turns<C: Chip>(
+    alloc: Global,
+    chip: &C,
+    book: &mut Book<C>,
+) -> Result<[bool; 3], Memory>
+    requires { C.base chip.now ≡ book.old.base }
+{
+    let first = take_turn(alloc, chip, book)?;
+    let second = take_turn(alloc, chip, book)?;
+    Ok([first, second, take_turn(alloc, chip, book)?])
+}
+
+/// The same of a new book, and its sizes then.
+fn three_turns<C: Chip>(alloc: Global, chip: &C) -> Result<([bool; 3], Sizes), Memory> {
+    let mut book = Book::open(alloc, chip)?;
+    let turns = take_three_turns(alloc, chip, &mut book)?;
+    Ok((turns, sizes(&book)))
+}
+
+#[test]
+fn a_loop_is_claimed_until_its_work_is_nothing_new(rt: HostRuntime) -> Result<(), Fail> {
+    let told = three_turns(rt.alloc(), &of_shape(Shape::Loop))?;
+    assert_eq!(rt; told, ([true, true, false], (true, 1, 1, 4)));
     Ok(())
 }
 

@@ -163,6 +163,7 @@ fn location_work(alloc: Global, shape: Shape, pc: u16, at: u32) -> Result<Work<u
         Shape::Counting | Shape::Restless => {
             posting(alloc, Some((node_at(0), at.saturating_add(1))), None)
         }
+        Shape::Loop => posting(alloc, Some((node_at(0), 1)), None),
         Shape::Pair => pairing(alloc, pc, at),
         Shape::Chain(last) if pc < last => posting(alloc, Some((node_at(pc + 1), 0)), None),
         Shape::Tree(last) => branching(alloc, pc, last),

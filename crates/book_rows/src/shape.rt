@@ -5,6 +5,8 @@
 pub enum Shape {
     /// The only location counts: it posts its number plus one to itself.
     Counting,
+    /// The only location posts 1 to itself: to 0 first, and then nothing new.
+    Loop,
     /// Location 0 leads to 1 and 2, which count beside each other.
     Pair,
     /// The only location counts, and no number is within another: whatever is posted raises its node.

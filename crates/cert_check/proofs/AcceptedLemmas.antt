@@ -12,7 +12,7 @@ use Rattle.call_context.specs.declared.node.Node.{Node}
 use Rattle.chip_analysis.specs.Analysis.{Analysis}
 use Rattle.chip_analysis.specs.Table.{IsFormedTable}
 use Rattle.closed_book.specs.ClosedBook.{table_in}
-use Rattle.round_core.specs.Same.{same_node}
+use Rattle.book_rules.specs.Same.{same_node}
 use Rattle.cert_text.specs.Writing.{AreNodes}
 use Rattle.cert_check.proofs.ClosedLemmas.{all_weaker}
 use Rattle.cert_check.proofs.TableLemmas.{flips_from}

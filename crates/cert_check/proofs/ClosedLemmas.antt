@@ -16,7 +16,7 @@ use Rattle.chip_analysis.specs.declared.chip.Work.{Work}
 use Rattle.chip_analysis.specs.Analysis.{Analysis, AreFormed}
 use Rattle.chip_analysis.specs.Table.{IsClosedTable, IsFormedTable, IsUnitOver}
 use Rattle.closed_book.specs.ClosedBook.{IsClosedBook, IsUnitWithWork, table_in}
-use Rattle.round_core.specs.Same.{same_frame, same_node, same_unit}
+use Rattle.book_rules.specs.Same.{same_frame, same_node, same_unit}
 use Rattle.node_fields.specs.declared.outside.Outside.{Outside}
 use Rattle.state_text.specs.Texts.{StateTexts}
 use Rattle.cert_check.proofs.TableLemmas.{flips_from}

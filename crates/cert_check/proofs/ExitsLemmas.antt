@@ -11,7 +11,7 @@ use Rattle.call_context.specs.Nodes.{frame_of}
 use Rattle.call_context.specs.declared.node.Frame.{Frame}
 use Rattle.call_context.specs.declared.node.Node.{Node}
 use Rattle.call_context.specs.declared.node.Node.TheVariants.{At, Exit}
-use Rattle.round_core.specs.Same.{same_frame}
+use Rattle.book_rules.specs.Same.{same_frame}
 use Rattle.cert_check.specs.Exits.{AreFirsts, AreNext, StandsAt, cursors_at, due_rows, first_at, frames_of, is_due, least_place, moved, nexts_of, returned}
 use Rattle.cert_check.specs.Refusal.{Input, return_from}
 use Rattle.cert_check.specs.declared.exits.Cursor.{Cursor}

@@ -9,7 +9,7 @@ use Rattle.std.proofs.lemmas.List.{map-append}
 use Rattle.std.proofs.lemmas.Option.{none-some, same_Some}
 use Rattle.call_context.specs.declared.node.Node.{Node}
 use Rattle.closed_book.specs.ClosedBook.{table_in}
-use Rattle.round_core.specs.Same.{same_node}
+use Rattle.book_rules.specs.Same.{same_node}
 use Rattle.cert_check.specs.Table.{placed}
 use Rattle.plain_lemmas.specs.Cases.{one_test}
 

@@ -2,9 +2,9 @@
 use Rattle.std.specs.Prelude.{◌≡◌, ℕ, None, Ok, List, IsPermutation}
 use Rattle.call_context.specs.declared.node.Node.{Node}
 use Rattle.chip_analysis.specs.Analysis.{Analysis}
-use Rattle.round_core.specs.Kept.{nodes_of}
-use Rattle.round_core.specs.Machine.{replay}
-use Rattle.round_core.specs.declared.event.Event.{Event}
+use Rattle.book_rules.specs.Kept.{nodes_of}
+use Rattle.book_rules.specs.Machine.{replay}
+use Rattle.book_rules.specs.declared.event.Event.{Event}
 use Rattle.report_bytes.specs.Report.{closed_report, report_of_journal}
 use Rattle.report_bytes.specs.Stacks.{HasOneStack}
 use Rattle.state_text.specs.Texts.{StateTexts}

@@ -7,7 +7,7 @@ use Rattle.call_context.specs.declared.node.Frame.{Frame}
 use Rattle.call_context.specs.declared.node.Node.{Node}
 use Rattle.call_context.specs.declared.node.Node.TheVariants.{At, Exit}
 use Rattle.call_context.specs.declared.node.Unit.TheVariants.{Back}
-use Rattle.round_core.specs.Same.{same_frame}
+use Rattle.book_rules.specs.Same.{same_frame}
 use Rattle.cert_check.specs.Refusal.{Input}
 use Rattle.cert_check.specs.declared.exits.Cursor.{Cursor}
 

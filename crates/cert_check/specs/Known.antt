@@ -4,7 +4,7 @@ use Rattle.call_context.specs.declared.node.Frame.{Frame}
 use Rattle.call_context.specs.declared.node.Node.{Node}
 use Rattle.call_context.specs.declared.node.Unit.{Unit as WorkUnit}
 use Rattle.chip_analysis.specs.Analysis.{Analysis, KeepsForm}
-use Rattle.round_core.specs.Same.{same_frame, same_node, same_unit}
+use Rattle.book_rules.specs.Same.{same_frame, same_node, same_unit}
 use Rattle.state_text.specs.Texts.{AreTexts, StateTexts}
 use Rattle.cert_text.specs.Writing.{AreNodes}
 

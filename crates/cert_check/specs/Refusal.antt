@@ -13,7 +13,7 @@ use Rattle.chip_analysis.specs.declared.chip.Work.{Work}
 use Rattle.chip_analysis.specs.Analysis.{Analysis}
 use Rattle.report_bytes.specs.Opens.{open_line_of}
 use Rattle.closed_book.specs.ClosedBook.{table_in}
-use Rattle.round_core.specs.Same.{same_frame}
+use Rattle.book_rules.specs.Same.{same_frame}
 use Rattle.node_fields.specs.declared.outside.Outside.{Outside}
 use Rattle.cert_text.specs.Certificate.{is_below}
 use Rattle.cert_check.specs.declared.refusal.Refusal.{Refusal}

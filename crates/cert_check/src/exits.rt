@@ -5,10 +5,10 @@ ghost use Rattle.call_context.specs.Nodes as nodes;
 ghost use Rattle.cert_check.specs.Exits.{cursors_at, due_rows, least_place, moved};
 ghost use Rattle.cert_check.specs.Refusal as refusals;
 
+use book_rules::tests_tell_which_are_one;
 use call_context::{Frame, Node, equal_nodes_are_one};
 use indexmap::IndexMap;
 use no_memory::Memory;
-use round_core::tests_tell_which_are_one;
 use std::alloc::Global;
 use std::marker::Model;
 

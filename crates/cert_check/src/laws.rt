@@ -8,14 +8,14 @@ ghost use Rattle.cert_text.specs.Writing.{AreNodes, IsCert};
 ghost use Rattle.cert_check.specs.Accepted.{GivesReport, IsAccepted};
 ghost use Rattle.cert_check.specs.Known.{Known};
 ghost use Rattle.cert_check.specs.Refusal.{refusal_of, works_in};
-ghost use Rattle.round_core.specs.Kept.{nodes_of};
-ghost use Rattle.round_core.specs.Machine.{replay, IsClosed, IsLegalJournal};
-ghost use Rattle.round_core.specs.declared.event.Event.{Event};
+ghost use Rattle.book_rules.specs.Kept.{nodes_of};
+ghost use Rattle.book_rules.specs.Machine.{replay, IsClosed, IsLegalJournal};
+ghost use Rattle.book_rules.specs.declared.event.Event.{Event};
 
+use book_rules::tests_tell_which_are_one;
 use cert_text::certificates_are_tables;
 use closed_book::{closed_book_is_its_table, tables_have_no_order};
 use report_bytes::closed_reports_are_of_tables;
-use round_core::tests_tell_which_are_one;
 use state_text::LawfulText;
 
 /// What the laws of the chip and of its texts tell of a table that is checked.

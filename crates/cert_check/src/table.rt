@@ -4,13 +4,13 @@ ghost use Rattle.std.specs.Prelude.{◌≡◌, IfOk, option_map};
 ghost use Rattle.std.specs.List.{IsDistinct};
 ghost use Rattle.std.specs.Map.{keys_of};
 ghost use Rattle.closed_book.specs.ClosedBook.{table_in};
-ghost use Rattle.round_core.specs.Same.{same_node};
+ghost use Rattle.book_rules.specs.Same.{same_node};
 ghost use Rattle.cert_check.specs.Table.{placed};
 
+use book_rules::tests_tell_which_are_one;
 use call_context::{Node, equal_nodes_are_one};
 use indexmap::IndexMap;
 use no_memory::Memory;
-use round_core::tests_tell_which_are_one;
 use std::alloc::Global;
 use std::marker::Model;
 

@@ -9,10 +9,10 @@ use Rattle.std.proofs.lemmas.Option.{none-some}
 use Rattle.call_context.specs.declared.node.Node.{Node}
 use Rattle.chip_analysis.specs.Analysis.{Analysis}
 use Rattle.chip_analysis.specs.Table.{IsFormedTable}
-use Rattle.round_core.specs.Counts.{AreApart}
-use Rattle.round_core.specs.Machine.{Held, held_at}
-use Rattle.round_core.specs.Same.{same_node}
-use Rattle.round_core.specs.Table.{table_of}
+use Rattle.book_rules.specs.Counts.{AreApart}
+use Rattle.book_rules.specs.Machine.{Held, held_at}
+use Rattle.book_rules.specs.Same.{same_node}
+use Rattle.book_rules.specs.Table.{table_of}
 use Rattle.cert_text.specs.Writing.{AreNodes}
 
 module _ {A : Type 0} where

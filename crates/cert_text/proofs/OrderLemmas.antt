@@ -12,7 +12,7 @@ use Rattle.std.proofs.lemmas.Cmp.{nat_list_cmp_total, tied_itself}
 use Rattle.std.proofs.lemmas.List.Elements.{All-from_recursion}
 use Rattle.call_context.specs.declared.node.Node.{Node}
 use Rattle.chip_analysis.specs.Analysis.{Analysis}
-use Rattle.round_core.specs.Same.{same_node}
+use Rattle.book_rules.specs.Same.{same_node}
 use Rattle.state_text.specs.Texts.{StateTexts}
 use Rattle.cert_text.specs.Certificate.{AreRows, Ascend, is_below, node_text, table_row}
 use Rattle.cert_text.specs.Writing.{AreNodes}

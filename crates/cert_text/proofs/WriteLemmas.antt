@@ -20,7 +20,7 @@ use Rattle.std.proofs.Math.Seq.{map-set}
 use Rattle.call_context.specs.declared.node.Node.{Node}
 use Rattle.call_context.specs.declared.node.Node.TheVariants.{At, Exit}
 use Rattle.chip_analysis.specs.Analysis.{Analysis}
-use Rattle.round_core.specs.Same.{same_node}
+use Rattle.book_rules.specs.Same.{same_node}
 use Rattle.text_fields.specs.Lines.{joined}
 use Rattle.text_fields.specs.Spelling.{once}
 use Rattle.node_fields.specs.Nodes.{node_field, node_is_exact, row_text}

@@ -6,7 +6,7 @@ use Rattle.std.specs.declared.alloc.Global.{Global}
 use Rattle.std.specs.declared.vec.Vec.{Vec}
 use Rattle.call_context.specs.declared.node.Node.{Node}
 use Rattle.chip_analysis.specs.Analysis.{Analysis}
-use Rattle.round_core.specs.Same.{same_node}
+use Rattle.book_rules.specs.Same.{same_node}
 use Rattle.state_text.specs.Texts.{StateTexts}
 use Rattle.cert_text.specs.Certificate.{AreRows, cert_of, node_text}
 

@@ -4,8 +4,8 @@ ghost use Rattle.std.specs.Prelude.{◌≡◌, ◌+◌, ◌<◌, ◌^◌, length
 ghost use Rattle.cert_text.specs.Certificate.{AreRows};
 ghost use Rattle.cert_text.specs.Writing.{AreNodes};
 
+use book_rules::tests_tell_which_are_one;
 use call_context::Node;
-use round_core::tests_tell_which_are_one;
 use state_text::LawfulText;
 use std::marker::Model;
 use std::snapshot::Snapshot;

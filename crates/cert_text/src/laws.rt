@@ -2,14 +2,14 @@
 
 ghost use Rattle.std.specs.Prelude.{◌≡◌, ◌↔◌, ℕ, List, Ok};
 ghost use Rattle.call_context.specs.declared.node.Node.{Node as ANode};
-ghost use Rattle.round_core.specs.Kept.{nodes_of};
-ghost use Rattle.round_core.specs.Machine.{replay, IsLegalJournal};
-ghost use Rattle.round_core.specs.declared.event.Event.{Event};
+ghost use Rattle.book_rules.specs.Kept.{nodes_of};
+ghost use Rattle.book_rules.specs.Machine.{replay, IsLegalJournal};
+ghost use Rattle.book_rules.specs.declared.event.Event.{Event};
 ghost use Rattle.cert_text.specs.Certificate.{AreRows, cert_of, table_of};
 ghost use Rattle.cert_text.specs.Writing.{AreNodes, IsCert};
 
+use book_rules::{closed_book_has_closed_table, nodes_stay, tests_tell_which_are_one};
 use chip_analysis::OrderlyChip;
-use round_core::{closed_book_has_closed_table, nodes_stay, tests_tell_which_are_one};
 use state_text::LawfulText;
 
 /// A text denotes a table exactly where it is the certificate of the table, whose nodes are in form and in order.

@@ -15,9 +15,9 @@ use Rattle.closed_book.specs.BookFacts.{ArePairs, IsItsTable}
 use Rattle.closed_book.specs.Broken.{IsBroken}
 use Rattle.closed_book.proofs.ClosedBooks.{one_done}
 use Rattle.plain_lemmas.specs.Members.{from_values}
-use Rattle.round_core.specs.Kept.{live_pairs, live_works}
-use Rattle.round_core.specs.Machine.{BookState, Done, done_at}
-use Rattle.round_core.specs.Table.{table_of}
+use Rattle.book_rules.specs.Kept.{live_pairs, live_works}
+use Rattle.book_rules.specs.Machine.{BookState, Done, done_at}
+use Rattle.book_rules.specs.Table.{table_of}
 
 -- the location of a unit over a formed table, and the form of its states
 record IsHome {A : Type 0} (m : Analysis A) (table : Node → Option A) (unit : WorkUnit) (at : A) (exit : Option A) : Type 0 where

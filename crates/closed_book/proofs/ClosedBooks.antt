@@ -15,11 +15,11 @@ use Rattle.chip_analysis.specs.Table.{IsUnitOver, IsHeldIn, IsClosedTable, IsFor
 use Rattle.chip_analysis.specs.declared.chip.Work.{Work}
 use Rattle.closed_book.specs.BookFacts.{ArePairs, IsItsTable}
 use Rattle.closed_book.specs.ClosedBook.{IsClosedBook, table_in}
-use Rattle.round_core.specs.Counts.{AreApart}
-use Rattle.round_core.specs.Kept.{live_pairs, nodes_of}
-use Rattle.round_core.specs.Machine.{BookState, Held, Done, done_at, held_at, IsUnit, IsFinished, IsClosed}
-use Rattle.round_core.specs.Same.{same_node, same_unit}
-use Rattle.round_core.specs.Table.{table_of}
+use Rattle.book_rules.specs.Counts.{AreApart}
+use Rattle.book_rules.specs.Kept.{live_pairs, nodes_of}
+use Rattle.book_rules.specs.Machine.{BookState, Held, Done, done_at, held_at, IsUnit, IsFinished, IsClosed}
+use Rattle.book_rules.specs.Same.{same_node, same_unit}
+use Rattle.book_rules.specs.Table.{table_of}
 use Rattle.plain_lemmas.specs.Cases.{both}
 
 -- TABLES THAT HOLD THE SAME

@@ -14,7 +14,7 @@ use Rattle.chip_analysis.specs.Table.{IsClosedTable}
 use Rattle.chip_analysis.specs.declared.chip.Work.{Work}
 use Rattle.closed_book.specs.ClosedBook.{HaveSame, IsClosedBook, table_in}
 use Rattle.closed_book.proofs.ClosedBooks.{closed_like, unit_like}
-use Rattle.round_core.specs.Same.{same_node}
+use Rattle.book_rules.specs.Same.{same_node}
 use Rattle.plain_lemmas.specs.Cases.{one_test}
 
 module _ (one : (m n : Node) → (same_node m n ≡ true) ↔ (m ≡ n)) where

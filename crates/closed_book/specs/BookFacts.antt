@@ -10,10 +10,10 @@ use Rattle.chip_analysis.specs.Table.{IsUnitOver}
 use Rattle.chip_analysis.specs.declared.chip.Work.{Work}
 use Rattle.closed_book.specs.ClosedBook.{IsClosedBook, NoneIsOpen}
 use Rattle.plain_lemmas.specs.Members.{from_values}
-use Rattle.round_core.specs.Kept.{live_pairs, live_works}
-use Rattle.round_core.specs.Machine.{BookState, Done, done_at, IsUnit}
-use Rattle.round_core.specs.Same.{same_unit}
-use Rattle.round_core.specs.Table.{table_of}
+use Rattle.book_rules.specs.Kept.{live_pairs, live_works}
+use Rattle.book_rules.specs.Machine.{BookState, Done, done_at, IsUnit}
+use Rattle.book_rules.specs.Same.{same_unit}
+use Rattle.book_rules.specs.Table.{table_of}
 
 -- the last works of a book's units are listed
 abbrev pub AreListed : {A : Type 0} → BookState A → Type 0

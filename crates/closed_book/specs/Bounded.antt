@@ -3,9 +3,9 @@ use Rattle.std.specs.Prelude.{◌+◌, ◌≤◌, List}
 use Rattle.std.specs.List.{AllByRecursion}
 use Rattle.call_context.specs.declared.node.Unit.{Unit as WorkUnit}
 use Rattle.chip_analysis.specs.Analysis.{Analysis}
-use Rattle.round_core.specs.declared.event.Event.{Event}
-use Rattle.round_core.specs.Counts.{claims_of, give_backs_of}
-use Rattle.round_core.specs.Machine.{Held, replay}
+use Rattle.book_rules.specs.declared.event.Event.{Event}
+use Rattle.book_rules.specs.Counts.{claims_of, give_backs_of}
+use Rattle.book_rules.specs.Machine.{Held, replay}
 
 -- No node of the book that a journal leads to rose more than 64 times, and no unit was claimed more than 128 times beside
 -- those that were given back.

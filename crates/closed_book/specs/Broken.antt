@@ -4,8 +4,8 @@ use Rattle.call_context.specs.declared.node.Node.{Node}
 use Rattle.call_context.specs.Nodes.{pc_of, IsLocation}
 use Rattle.chip_analysis.specs.declared.cause.Cause.{Cause}
 use Rattle.chip_analysis.specs.Analysis.{Analysis}
-use Rattle.round_core.specs.Machine.{Held}
-use Rattle.round_core.specs.Table.{table_of}
+use Rattle.book_rules.specs.Machine.{Held}
+use Rattle.book_rules.specs.Table.{table_of}
 
 -- The site of an open is the address of a location of the book, where by the location's state the stated limit that the
 -- cause names is broken.

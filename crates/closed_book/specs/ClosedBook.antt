@@ -7,7 +7,7 @@ use Rattle.call_context.specs.declared.node.Unit.{Unit as WorkUnit}
 use Rattle.chip_analysis.specs.Analysis.{Analysis}
 use Rattle.chip_analysis.specs.Table.{IsUnitOver, IsClosedTable, IsFormedTable}
 use Rattle.chip_analysis.specs.declared.chip.Work.{Work}
-use Rattle.round_core.specs.Same.{same_node, same_unit}
+use Rattle.book_rules.specs.Same.{same_node, same_unit}
 
 -- the chip's program with options, the nodes with their states, and the units with their works
 pub record Closed (B A : Type 0) : Type 0 where

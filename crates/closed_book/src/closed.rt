@@ -4,13 +4,14 @@ ghost use Rattle.std.specs.Prelude.{◌≡◌, ◌==◌, ◌↔◌, ◌||◌, no
 ghost use Rattle.std.specs.List.{list_all};
 ghost use Rattle.std.specs.Map.{values_of};
 ghost use Rattle.closed_book.specs.ClosedBook.{IsClosedBook, NoneIsOpen};
-ghost use Rattle.round_core.specs.Kept.{is_live, live_pairs, nodes_of, works_of};
-ghost use Rattle.round_core.specs.Machine.{replay, IsClosed};
+ghost use Rattle.book_rules.specs.Kept.{is_live, live_pairs, nodes_of, works_of};
+ghost use Rattle.book_rules.specs.Machine.{replay, IsClosed};
 
 use crate::{closed_book_is_its_table, finished_books_are_their_units};
+use book_rules::Event;
 use call_context::{Node, Unit};
 use chip_analysis::{Chip, OrderlyChip, Work};
-use round_core::{Book, Event};
+use round_core::Book;
 use std::marker::Model;
 use std::snapshot::Snapshot;
 

@@ -22,17 +22,19 @@ ghost use Rattle.closed_book.specs.BookFacts.{ArePairs, IsItsTable};
 ghost use Rattle.closed_book.specs.Bounded.{AreBounded};
 ghost use Rattle.closed_book.specs.Broken.{IsBroken};
 ghost use Rattle.closed_book.specs.ClosedBook.{HaveSame, IsClosedBook, NoneIsOpen, table_in};
-ghost use Rattle.round_core.specs.Kept.{live_pairs, live_works, nodes_of};
-ghost use Rattle.round_core.specs.Machine.{replay, IsClosed, IsFinished, IsLegalJournal};
-ghost use Rattle.round_core.specs.Same.{same_node};
-ghost use Rattle.round_core.specs.declared.event.Event.{Event};
+ghost use Rattle.book_rules.specs.Kept.{live_pairs, live_works, nodes_of};
+ghost use Rattle.book_rules.specs.Machine.{BookState, replay, IsClosed, IsFinished, IsLegalJournal};
+ghost use Rattle.book_rules.specs.Same.{same_node};
+ghost use Rattle.book_rules.specs.Sound.{IsSound};
+ghost use Rattle.book_rules.specs.declared.event.Event.{Event};
 
+use book_rules::{
+    claims_are_bounded, closed_book_has_closed_table, finished_book_is_its_table,
+    live_pairs_are_units, rises_are_bounded, sound_books_are_their_tables, sound_books_stay,
+    tests_tell_which_are_one,
+};
 use chip_analysis::{Chip, OrderlyChip};
 pub use closed::{ClosedBook, read_closed, read_closed_with_journal};
-use round_core::{
-    claims_are_bounded, closed_book_has_closed_table, finished_book_is_its_table,
-    live_pairs_are_units, nodes_stay, rises_are_bounded, tests_tell_which_are_one,
-};
 
 /// What the laws of the book tell of a finished one: its pairs are its units with their last works, and its table is that of
 /// its units.
@@ -66,6 +68,16 @@ pub fn tables_have_no_open<C: Chip>()
         → IsClosedBook (C.analysis base) nodes works → NoneIsOpen (values_of works) }
 {}
 
+/// The nodes of a sound book that is finished and has no open, with the last works of its units, are a closed table with its works,
+/// wherever the book began.
+pub fn sound_books_are_closed<C: Chip>()
+    ensures { (base : C.Base) (b : BookState C.Abs) → (let a = C.analysis base in
+        IsSound a b → IsClosed b → IsClosedBook a (nodes_of b) (live_pairs b)) }
+{
+    live_pairs_are_units::<C>();
+    sound_books_are_their_tables::<C>();
+}
+
 /// The nodes of a finished book without opens, with the last works of its units, are a closed table with its works.
 pub fn closed_book_is_its_table<C: OrderlyChip>()
     ensures { (base : C.Base) (journal : List Event) → C.program base → (let a = C.analysis base in
@@ -73,9 +85,8 @@ pub fn closed_book_is_its_table<C: OrderlyChip>()
         IsLegalJournal a journal → IsClosed b → IsClosedBook a (nodes_of b) (live_pairs b)) }
 {
     C::order_laws();
-    nodes_stay::<C>();
-    closed_book_has_closed_table::<C>();
-    finished_books_are_their_units::<C>();
+    sound_books_stay::<C>();
+    sound_books_are_closed::<C>();
 }
 
 /// In whatever order the nodes of a table stand, it holds the same. If it is closed it stays so, and it has the same units

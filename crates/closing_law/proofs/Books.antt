@@ -11,8 +11,8 @@ use Rattle.chip_law.specs.Machine.{Machine}
 use Rattle.closed_book.specs.BookFacts.{AreListed}
 use Rattle.closed_book.specs.ClosedBook.{IsClosedBook, NoneIsOpen, table_in}
 use Rattle.closing_law.specs.Covered.{AreCovering, CoversRuns}
-use Rattle.round_core.specs.Kept.{live_works}
-use Rattle.round_core.specs.Machine.{BookState, IsFinished, IsClosed}
+use Rattle.book_rules.specs.Kept.{live_works}
+use Rattle.book_rules.specs.Machine.{BookState, IsFinished, IsClosed}
 
 pub is_closed : {A : Type 0} (b : BookState A) → AreListed b → IsFinished b → NoneIsOpen (live_works b) → IsClosed b
 is_closed b listed finished none = record { finished = finished; no_open = λ unit d u found. none d.work (listed unit d u found) }

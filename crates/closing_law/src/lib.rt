@@ -9,14 +9,14 @@ ghost use Rattle.chip_analysis.specs.declared.chip.Work.{Work};
 ghost use Rattle.chip_analysis.specs.Table.{IsClosedTable, IsFormedTable};
 ghost use Rattle.closed_book.specs.ClosedBook.{IsClosedBook, NoneIsOpen, table_in};
 ghost use Rattle.closing_law.specs.Covered.{CoversRuns, AreCovering};
-ghost use Rattle.round_core.specs.Kept.{live_works};
-ghost use Rattle.round_core.specs.Machine.{replay, IsFinished, IsLegalJournal};
-ghost use Rattle.round_core.specs.declared.event.Event.{Event};
+ghost use Rattle.book_rules.specs.Kept.{live_works};
+ghost use Rattle.book_rules.specs.Machine.{replay, IsFinished, IsLegalJournal};
+ghost use Rattle.book_rules.specs.declared.event.Event.{Event};
 
+use book_rules::live_works_are_of_units;
 use chip_law::LawfulChip;
 use closed_book::closed_book_is_its_table;
 pub use closed_book::{ClosedBook, read_closed};
-use round_core::live_works_are_of_units;
 
 /// Over a closed table every run stands, at each state, under some location with some suspended states. So each item
 /// that is met is among the items of the table's works, and no run leaves the model.

@@ -15,12 +15,12 @@ use Rattle.fact_table.specs.declared.exchange.Last.{Last}
 use Rattle.fact_table.specs.declared.exchange.Last.TheVariants.{Memory}
 use Rattle.fact_table.proofs.ExchangeLemmas.{Beside, all_append, all_both, all_map, others_out}
 use Rattle.round_core.specs.Answers.{AnswersClaim}
-use Rattle.round_core.specs.Claimable.{HasAtLeast}
-use Rattle.round_core.specs.Counts.{seat_of, NoneOfSeat, unit_of}
-use Rattle.round_core.specs.Kept.{Kept, with_event, IsOutOf}
-use Rattle.round_core.specs.Machine.{Out, out_at, replay, IsLegalJournal}
-use Rattle.round_core.specs.declared.event.Event.{Event}
-use Rattle.round_core.specs.declared.event.Event.TheVariants.{Claim, Post}
+use Rattle.book_rules.specs.Claimable.{HasAtLeast}
+use Rattle.book_rules.specs.Counts.{seat_of, NoneOfSeat, unit_of}
+use Rattle.book_rules.specs.Kept.{Kept, with_event, IsOutOf}
+use Rattle.book_rules.specs.Machine.{Out, out_at, replay, IsLegalJournal}
+use Rattle.book_rules.specs.declared.event.Event.{Event}
+use Rattle.book_rules.specs.declared.event.Event.TheVariants.{Claim, Post}
 use Rattle.round_core.specs.declared.ticket.Claimed.{Claimed}
 use Rattle.round_core.specs.declared.ticket.Claimed.TheVariants.{Ticket, Idle, Finished}
 use Rattle.round_core.specs.declared.ticket.Done.{Done}

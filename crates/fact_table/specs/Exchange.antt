@@ -5,13 +5,13 @@ use Rattle.chip_analysis.specs.Analysis.{Analysis}
 use Rattle.fact_table.specs.declared.exchange.Last.{Last}
 use Rattle.fact_table.specs.declared.exchange.Last.TheVariants.{Full, Shared, Idle, Finished, Memory}
 use Rattle.round_core.specs.Ahead.{IsAhead}
-use Rattle.round_core.specs.Claimable.{HasAtLeast}
-use Rattle.round_core.specs.Kept.{Kept, with_event, IsOutOf}
-use Rattle.round_core.specs.Machine.{BookState, Out, HasClaimable, IsFinished, IsFirst, NoneClaimable, replay}
-use Rattle.round_core.specs.Same.{same_unit}
+use Rattle.book_rules.specs.Claimable.{HasAtLeast}
+use Rattle.book_rules.specs.Kept.{Kept, with_event, IsOutOf}
+use Rattle.book_rules.specs.Machine.{BookState, Out, HasClaimable, IsFinished, IsFirst, NoneClaimable, replay}
+use Rattle.book_rules.specs.Same.{same_unit}
 use Rattle.round_core.specs.declared.ahead.Looked.{Looked}
-use Rattle.round_core.specs.declared.event.Event.{Event}
-use Rattle.round_core.specs.declared.event.Event.TheVariants.{Claim, Post}
+use Rattle.book_rules.specs.declared.event.Event.{Event}
+use Rattle.book_rules.specs.declared.event.Event.TheVariants.{Claim, Post}
 use Rattle.round_core.specs.declared.ticket.Done.{Done}
 
 -- a book with more events

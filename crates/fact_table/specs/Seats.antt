@@ -5,11 +5,11 @@ use Rattle.chip_analysis.specs.Analysis.{Analysis}
 use Rattle.fact_table.specs.Exchange.{AreClaimed, AreOutOf, TellsLast, claim_events, post_events, tickets_of}
 use Rattle.fact_table.specs.declared.exchange.Exchanged.{Exchanged}
 use Rattle.round_core.specs.Answers.{AnswersClaim}
-use Rattle.round_core.specs.Claimable.{HasAtLeast}
-use Rattle.round_core.specs.Kept.{IsOutOf}
-use Rattle.round_core.specs.Machine.{Out, replay}
-use Rattle.round_core.specs.declared.event.Event.{Event}
-use Rattle.round_core.specs.declared.event.Event.TheVariants.{Claim}
+use Rattle.book_rules.specs.Claimable.{HasAtLeast}
+use Rattle.book_rules.specs.Kept.{IsOutOf}
+use Rattle.book_rules.specs.Machine.{Out, replay}
+use Rattle.book_rules.specs.declared.event.Event.{Event}
+use Rattle.book_rules.specs.declared.event.Event.TheVariants.{Claim}
 use Rattle.round_core.specs.declared.ticket.Claimed.{Claimed}
 use Rattle.round_core.specs.declared.ticket.Claimed.TheVariants.{Ticket, Idle, Finished}
 use Rattle.round_core.specs.declared.ticket.Done.{Done}

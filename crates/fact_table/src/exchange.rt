@@ -3,16 +3,15 @@
 ghost use Rattle.std.specs.Prelude.{IfErr, OnErr, OnOk, OnSome, MatchOption, ◌≡◌, ◌≤◌, ◌<◌, ◌⊎◌, ◌∷◌, [], false, true, not, IsTrue, vec_len, vec_capacity};
 ghost use Rattle.std.specs.List.{AllByRecursion};
 ghost use Rattle.fact_table.specs.Exchange.{AnswersFurther, AreAhead, AreOutOf, ClaimsSome, ExchangesOn, IsWorked, Posts, tickets_of};
-ghost use Rattle.round_core.specs.Claimable.{HasAtLeast};
-ghost use Rattle.round_core.specs.Kept.{with_event, IsOutOf};
-ghost use Rattle.round_core.specs.Machine.{replay};
-ghost use Rattle.round_core.specs.declared.event.Event.TheVariants.{Post};
+ghost use Rattle.book_rules.specs.Claimable.{HasAtLeast};
+ghost use Rattle.book_rules.specs.Kept.{with_event, IsOutOf};
+ghost use Rattle.book_rules.specs.Machine.{replay};
+ghost use Rattle.book_rules.specs.declared.event.Event.TheVariants.{Post};
 
+use book_rules::{outs_stay_beside, tests_tell_which_are_one};
 use chip_analysis::Chip;
 use no_memory::Memory;
-use round_core::{
-    Ahead, Book, Claimed, Done, Spent, Ticket, outs_stay_beside, tests_tell_which_are_one,
-};
+use round_core::{Ahead, Book, Claimed, Done, Spent, Ticket};
 use std::alloc::Global;
 use std::collections::VecDeque;
 

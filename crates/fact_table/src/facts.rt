@@ -1,7 +1,8 @@
 //! The book under the lock.
 
+use book_rules::Event;
 use chip_analysis::Chip;
-use round_core::{Book, Event};
+use round_core::Book;
 use turn_table::Journaled;
 
 /// The book that the workers share, behind a pointer: a turn moves no more than that.
@@ -11,7 +12,7 @@ pub struct Facts<C: Chip> {
 }
 
 impl<C: Chip> Journaled for Facts<C> {
-    ghost use Rattle.round_core.specs.Counts.{seat_of};
+    ghost use Rattle.book_rules.specs.Counts.{seat_of};
 
     type Event = Event;
 

@@ -1,6 +1,6 @@
 //! The gate.
 
-use round_core::Event;
+use book_rules::Event;
 use std::sync::atomic::AtomicU64;
 use std::sync::atomic::Ordering::SeqCst;
 use std::thread;

@@ -3,8 +3,8 @@ use Rattle.std.proofs.Common.{◌≡◌, true, Some, sym, ap, ◌∙◌}
 use Rattle.std.specs.Prelude.{◌↔◌, Contains}
 use Rattle.call_context.specs.declared.node.Unit.{Unit as WorkUnit}
 use Rattle.chip_analysis.specs.declared.chip.Work.{Work}
-use Rattle.round_core.specs.Kept.{live_pairs, live_works}
-use Rattle.round_core.specs.Machine.{BookState, Done, done_at, IsClosed, IsFinished, IsUnit}
+use Rattle.book_rules.specs.Kept.{live_pairs, live_works}
+use Rattle.book_rules.specs.Machine.{BookState, Done, done_at, IsClosed, IsFinished, IsUnit}
 use Rattle.report_bytes.specs.Report.{are_closed}
 use Rattle.report_bytes.specs.ClosedWorks.{all_closed, none_open}
 use Rattle.plain_lemmas.specs.Members.{from_values}

@@ -15,9 +15,9 @@ use Rattle.item_lines.specs.Line.{item_line_of}
 use Rattle.item_lines.specs.Shown.{HasLine}
 use Rattle.closed_book.specs.BookFacts.{AreListed}
 use Rattle.closed_book.specs.ClosedBook.{IsClosedBook, table_in}
-use Rattle.round_core.specs.Machine.{BookState, Done, done_at, replay, IsUnit}
-use Rattle.round_core.specs.Table.{table_of}
-use Rattle.round_core.specs.declared.event.Event.{Event}
+use Rattle.book_rules.specs.Machine.{BookState, Done, done_at, replay, IsUnit}
+use Rattle.book_rules.specs.Table.{table_of}
+use Rattle.book_rules.specs.declared.event.Event.{Event}
 use Rattle.plain_lemmas.specs.Members.{in_flat_map, in_map}
 use Rattle.report_bytes.specs.Deepest.{deepest_of}
 use Rattle.report_bytes.specs.Opens.{open_line_of}

@@ -14,9 +14,9 @@ use Rattle.chip_analysis.specs.declared.cause.Cause.{Cause}
 use Rattle.chip_analysis.specs.Analysis.{Analysis}
 use Rattle.chip_analysis.specs.declared.chip.Work.{Work}
 use Rattle.item_lines.specs.Line.{item_line_of}
-use Rattle.round_core.specs.Kept.{live_works}
-use Rattle.round_core.specs.declared.event.Event.{Event}
-use Rattle.round_core.specs.Machine.{BookState, IsFinished, replay}
+use Rattle.book_rules.specs.Kept.{live_works}
+use Rattle.book_rules.specs.declared.event.Event.{Event}
+use Rattle.book_rules.specs.Machine.{BookState, IsFinished, replay}
 use Rattle.report_bytes.specs.Opens.{open_line_of}
 use Rattle.report_bytes.specs.declared.deepest.Deepest.{Deepest}
 use Rattle.report_bytes.specs.declared.lines.Counts.{Counts}

@@ -2,11 +2,11 @@
 
 ghost use Rattle.std.specs.Prelude.{◌≡◌, ◌↔◌, true, List};
 ghost use Rattle.report_bytes.specs.Report.{are_closed, last_works};
-ghost use Rattle.round_core.specs.Machine.{replay, IsClosed, IsFinished, IsLegalJournal};
-ghost use Rattle.round_core.specs.declared.event.Event.{Event as AnEvent};
+ghost use Rattle.book_rules.specs.Machine.{replay, IsClosed, IsFinished, IsLegalJournal};
+ghost use Rattle.book_rules.specs.declared.event.Event.{Event as AnEvent};
 
+use book_rules::{live_pairs_are_units, live_works_are_of_units};
 use chip_analysis::Chip;
-use round_core::{live_pairs_are_units, live_works_are_of_units};
 
 /// The report of a finished book says that it is closed exactly where the book is.
 pub fn closed_books_are_told<C: Chip>()

@@ -8,13 +8,13 @@ ghost use Rattle.closed_book.specs.ClosedBook.{HaveSame, IsClosedBook};
 ghost use Rattle.report_bytes.specs.Report.{closed_report, items_of, report_of, report_of_journal};
 ghost use Rattle.report_bytes.specs.Shows.{ShowsTable, ShowsWorks};
 ghost use Rattle.report_bytes.specs.Stacks.{GrowsOneWay, HasOneStack};
-ghost use Rattle.round_core.specs.Machine.{replay, IsFinished, IsLegalJournal};
-ghost use Rattle.round_core.specs.Table.{table_of};
-ghost use Rattle.round_core.specs.declared.event.Event.{Event as AnEvent};
+ghost use Rattle.book_rules.specs.Machine.{replay, IsFinished, IsLegalJournal};
+ghost use Rattle.book_rules.specs.Table.{table_of};
+ghost use Rattle.book_rules.specs.declared.event.Event.{Event as AnEvent};
 
+use book_rules::{finished_book_is_its_table, live_works_are_of_units};
 use chip_analysis::Chip;
 use closed_book::tables_have_no_order;
-use round_core::{finished_book_is_its_table, live_works_are_of_units};
 
 /// The report of works, whoever made them, says whether some of them leaves a site open, and shows all their items and open
 /// sites.

@@ -4,8 +4,8 @@ ghost use Rattle.std.specs.Prelude.{◌≡◌, ◌++◌, ◌&&◌, if◌then◌e
 ghost use Rattle.closed_book.specs.ClosedBook.{table_in};
 ghost use Rattle.report_bytes.specs.Opens.{open_line_of};
 ghost use Rattle.report_bytes.specs.Shows.{ShowsTable};
-ghost use Rattle.round_core.specs.Kept.{live_works};
-ghost use Rattle.round_core.specs.Machine.{replay};
+ghost use Rattle.book_rules.specs.Kept.{live_works};
+ghost use Rattle.book_rules.specs.Machine.{replay};
 ghost use Rattle.report_bytes.specs.Deepest.{deepest_of as the_deepest_of, deepest_text};
 ghost use Rattle.report_bytes.specs.Report.{with_lines, lines_of, reported_lines, items_of, is_empty, are_closed, report_text, closed_report, counts_of, head_line as the_head_line, summary_line, IsReportOf};
 ghost use Rattle.std.specs.Map.{values_of};

@@ -11,8 +11,8 @@ use Rattle.plain_lemmas.specs.Members.{in_first, in_rest}
 use Rattle.report_bytes.specs.Report.{are_closed, head_line, is_empty, last_works, report_of}
 use Rattle.report_bytes.specs.Shows.{Says, ShowsWorks}
 use Rattle.report_text.specs.Promise.{CoversEveryRun, ShowsOpenSites}
-use Rattle.round_core.specs.Machine.{replay}
-use Rattle.round_core.specs.declared.event.Event.{Event}
+use Rattle.book_rules.specs.Machine.{replay}
+use Rattle.book_rules.specs.declared.event.Event.{Event}
 
 -- works that aren't closed leave one open
 abbrev LeavesOpen : {A : Type 0} → List (Work A) → Type 0

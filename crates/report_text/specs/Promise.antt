@@ -8,8 +8,8 @@ use Rattle.chip_law.specs.Machine.{Machine}
 use Rattle.chip_law.specs.Runs.{Meets, GoesWild}
 use Rattle.item_lines.specs.Shown.{HasLine, IsShownIn}
 use Rattle.closed_book.specs.Broken.{IsBroken}
-use Rattle.round_core.specs.Machine.{replay}
-use Rattle.round_core.specs.declared.event.Event.{Event}
+use Rattle.book_rules.specs.Machine.{replay}
+use Rattle.book_rules.specs.declared.event.Event.{Event}
 use Rattle.report_bytes.specs.Opens.{open_line_of}
 use Rattle.report_bytes.specs.Report.{last_works}
 use Rattle.report_bytes.specs.Shows.{Says}

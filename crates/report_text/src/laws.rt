@@ -7,8 +7,8 @@ ghost use Rattle.chip_analysis.specs.declared.chip.Work.{Work};
 ghost use Rattle.closed_book.specs.ClosedBook.{IsClosedBook};
 ghost use Rattle.report_bytes.specs.Report.{are_closed, closed_report, last_works, report_of_journal};
 ghost use Rattle.report_text.specs.Promise.{CoversEveryRun, ShowsOpenSites};
-ghost use Rattle.round_core.specs.Machine.{replay, IsFinished, IsLegalJournal};
-ghost use Rattle.round_core.specs.declared.event.Event.{Event as AnEvent};
+ghost use Rattle.book_rules.specs.Machine.{replay, IsFinished, IsLegalJournal};
+ghost use Rattle.book_rules.specs.declared.event.Event.{Event as AnEvent};
 
 use chip_analysis::OrderlyChip;
 use chip_law::LawfulChip;

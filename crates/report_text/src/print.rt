@@ -5,7 +5,7 @@ ghost use Rattle.closed_book.specs.ClosedBook.{table_in};
 ghost use Rattle.report_bytes.specs.Report.{IsReport, closed_report};
 ghost use Rattle.report_bytes.specs.Shows.{ShowsTable};
 ghost use Rattle.report_text.specs.Promise.{CoversEveryRun};
-ghost use Rattle.round_core.specs.Machine.{replay};
+ghost use Rattle.book_rules.specs.Machine.{replay};
 ghost use Rattle.streams.specs.Stream.{AppendsPrefix, HasRisen, appended};
 
 use crate::laws::closed_works_cover_runs;

@@ -6,9 +6,9 @@ use Rattle.call_context.specs.declared.node.Node.{Node}
 use Rattle.chip_analysis.specs.Analysis.{Analysis}
 use Rattle.round_core.specs.Ahead.{AreBefore, AreLooked, IsLooked, IsRow, IsStill}
 use Rattle.round_core.specs.declared.ahead.Looked.{Looked}
-use Rattle.round_core.specs.Machine.{Held, held_at}
-use Rattle.round_core.specs.Stays.{AllStay}
-use Rattle.round_core.proofs.HeldLaws.{AllStay-trans, held_at-later}
+use Rattle.book_rules.specs.Machine.{Held, held_at}
+use Rattle.book_rules.specs.Stays.{AllStay}
+use Rattle.book_rules.specs.Staying.{AllStay-trans, held_at-later}
 
 module _ {A : Type 0} (m : Analysis A) where
   -- one more post

@@ -1,24 +1,23 @@
 -- The events of claims and give-backs.
-use Rattle.std.specs.Prelude.{◌≡◌, ℕ, Option, None, Some, List, [], ◌∷◌, ◌++◌, MatchOption}
+use Rattle.std.specs.Prelude.{◌≡◌, ℕ, Option, None, Some, List, [], ◌∷◌, ◌++◌}
 use Rattle.std.proofs.Common.{sym, ◌∙◌, ap, subst}
 use Rattle.std.proofs.Math.Path.{ap₂}
 use Rattle.call_context.specs.declared.node.Unit.{Unit as WorkUnit}
-use Rattle.round_core.proofs.SameLaws.{same_unit-refl}
+use Rattle.book_rules.specs.SameTests.{same_unit-refl}
 use Rattle.chip_analysis.specs.Analysis.{Analysis}
-use Rattle.round_core.specs.declared.event.Event.{Event}
-use Rattle.round_core.specs.declared.event.Event.TheVariants.{Claim, GiveBack}
+use Rattle.book_rules.specs.declared.event.Event.{Event}
+use Rattle.book_rules.specs.declared.event.Event.TheVariants.{Claim, GiveBack}
 use Rattle.round_core.specs.declared.parts.Parts.{Parts}
 use Rattle.round_core.specs.declared.place.Place.{Place}
-use Rattle.round_core.specs.declared.versions.Versions.{Versions}
-use Rattle.round_core.specs.Machine.{BookState, Held, Out, out_at, without, with_out, inputs_of, versions_of, replay, IsClaimable, IsFirst, IsLegal, IsLegalJournal, NoneClaimable}
-use Rattle.round_core.specs.Claims.{placed}
-use Rattle.round_core.specs.Kept.{Kept, with_event}
+use Rattle.book_rules.specs.declared.versions.Versions.{Versions}
+use Rattle.book_rules.specs.Machine.{BookState, Held, Out, out_at, without, with_out, inputs_of, versions_of, replay, IsClaimable, IsFirst, IsLegal, IsLegalJournal, NoneClaimable}
+use Rattle.round_core.specs.Claims.{placed, IsNext}
+use Rattle.book_rules.specs.Kept.{Kept, with_event}
 use Rattle.round_core.specs.Shown.{Shows, IsBook, StaysShown}
 use Rattle.round_core.specs.Tickets.{IsTicketOf}
 use Rattle.round_core.proofs.Cases.{if_true, match_some}
-use Rattle.round_core.proofs.MachineLemmas.{replay-more, after-claim, after-give_back}
+use Rattle.book_rules.specs.Replays.{replay-push, claim-leaves, give_back-leaves, IsLegalJournal-push}
 use Rattle.round_core.proofs.OutLemmas.{out_at-last}
-use Rattle.round_core.proofs.ReplayLaws.{IsLegalJournal-push}
 
 module _ {A : Type 0} (m : Analysis A) where
   abbrev behind : BookState A → List (Out A) → BookState A
@@ -37,7 +36,7 @@ module _ {A : Type 0} (m : Analysis A) where
   claim-behind : (journal journal' : List Event) (seat : ℕ) (u : WorkUnit) (t : Out A) → journal' ≡ journal ++ Claim seat u ∷ []
       → IsTicketOf (replay m journal).nodes seat u t → replay m journal' ≡ behind (replay m journal) ((replay m journal).out ++ t ∷ [])
   claim-behind journal journal' seat u t e k =
-      ap (λ j. replay m j) e ∙ replay-more m journal (Claim seat u) ∙ after-claim m (replay m journal) seat u
+      ap (λ j. replay m j) e ∙ replay-push m journal (Claim seat u) ∙ claim-leaves m (replay m journal) seat u
       ∙ ap (λ os. behind (replay m journal) os) (out-is (replay m journal) seat u t k)
 
   -- the book behind a claim
@@ -59,7 +58,7 @@ module _ {A : Type 0} (m : Analysis A) where
   pub given_back : (journal : List Event) (p' : Parts A) (seat : ℕ) (u : WorkUnit) → p'.turns.journal ≡ journal ++ GiveBack seat u ∷ []
       → Shows (behind (replay m journal) (without (replay m journal).out u)) p' → Shows (replay m p'.turns.journal) p'
   given_back journal p' seat u e s =
-      subst (λ c. Shows c p') (sym (ap (λ j. replay m j) e ∙ replay-more m journal (GiveBack seat u) ∙ after-give_back m (replay m journal) seat u)) s
+      subst (λ c. Shows c p') (sym (ap (λ j. replay m j) e ∙ replay-push m journal (GiveBack seat u) ∙ give_back-leaves m (replay m journal) seat u)) s
 
 -- parts that stand for the same books, with the same journal
 pub book-stays : {A : Type 0} (m : Analysis A) (p p' : Parts A) → StaysShown p p' → p'.turns.journal ≡ p.turns.journal
@@ -78,7 +77,7 @@ legal-more m journal journal' event more legal next = subst (IsLegalJournal m) (
 -- the first unit that can be claimed is taken out: the book behind that, and what the claim tells
 pub first_out : {A : Type 0} (m : Analysis A) (p q p' : Parts A) (seat : ℕ) (found : Option (Place × WorkUnit)) (place : Place) (u : WorkUnit) (t : Out A)
     → IsBook m p.turns.journal p → StaysShown p q → q.turns.journal ≡ p.turns.journal
-    → MatchOption found (NoneClaimable (replay m p.turns.journal)) (λ r. IsFirst (replay m p.turns.journal) r.1 × (placed (replay m p.turns.journal).nodes r.1 ≡ Some r.0))
+    → IsNext (replay m p.turns.journal) found
     → found ≡ Some (place, u) → IsTicketOf q.nodes.rows seat u t → p'.turns.journal ≡ q.turns.journal ++ Claim seat u ∷ []
     → ((b : BookState A) (o : Out A) → Shows b q → IsClaimable b u → placed b.nodes u ≡ Some place → o.unit ≡ u → Shows (record b { out = b.out ++ o ∷ [] }) p')
     → IsBook m p'.turns.journal p' × IsFirst (replay m p.turns.journal) u × (p'.turns.journal ≡ p.turns.journal ++ Claim seat u ∷ [])

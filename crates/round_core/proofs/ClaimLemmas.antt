@@ -8,12 +8,12 @@ use Rattle.call_context.specs.declared.node.Node.{Node}
 use Rattle.call_context.specs.declared.node.Node.TheVariants.{At, Exit}
 use Rattle.call_context.specs.declared.node.Unit.{Unit as WorkUnit}
 use Rattle.call_context.specs.declared.node.Unit.TheVariants as unit
-use Rattle.round_core.specs.Same.{same_node}
-use Rattle.round_core.proofs.SameLaws.{same_node-eq, same_node-refl}
+use Rattle.book_rules.specs.Same.{same_node}
+use Rattle.book_rules.specs.SameTests.{same_node-eq, same_node-refl}
 use Rattle.round_core.specs.declared.place.Place.{Place}
 use Rattle.round_core.specs.declared.place.Place.TheVariants as place
-use Rattle.round_core.specs.declared.versions.Versions.{Versions}
-use Rattle.round_core.specs.Machine.{BookState, Held, Done, Out, held_at, done_at, out_at, place_of, waits_for, versions_of, IsUnit, HasRisen, IsClaimable, IsBelow, ComesBefore}
+use Rattle.book_rules.specs.declared.versions.Versions.{Versions}
+use Rattle.book_rules.specs.Machine.{BookState, Held, Done, Out, held_at, done_at, out_at, place_of, waits_for, versions_of, IsUnit, HasRisen, IsClaimable, IsBelow, ComesBefore}
 use Rattle.round_core.specs.Claims.{placed, one_of, back_of, unit_at, due_of, claimable_at}
 use Rattle.round_core.specs.Turns.{place_out}
 use Rattle.round_core.specs.Shown.{AreDistinct}

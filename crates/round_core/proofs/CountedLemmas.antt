@@ -9,16 +9,16 @@ use Rattle.call_context.specs.declared.node.Unit.{Unit as WorkUnit}
 use Rattle.round_core.specs.declared.parts.Parts.{Parts}
 use Rattle.round_core.specs.declared.place.Place.{Place}
 use Rattle.round_core.specs.Agenda.{AreDifferent, IsIn}
-use Rattle.round_core.specs.Claimable.{HasAtLeast}
+use Rattle.book_rules.specs.Claimable.{HasAtLeast}
 use Rattle.round_core.specs.Claims.{placed}
-use Rattle.round_core.specs.Machine.{BookState, IsClaimable, HasClaimable}
-use Rattle.round_core.specs.Same.{same_unit}
+use Rattle.book_rules.specs.Machine.{BookState, IsClaimable, HasClaimable}
+use Rattle.book_rules.specs.Same.{same_unit}
 use Rattle.round_core.specs.Shown.{Shows, found_at, is_new_return, place_cmp}
 use Rattle.round_core.proofs.Cases.{truth}
 use Rattle.round_core.proofs.ClaimLemmas.{placed_one}
 use Rattle.round_core.proofs.ListLemmas.{IsIn-append, IsIn-last, IsIn-split, different_append, different_filter, in_filter, taken_from, to_filter}
 use Rattle.round_core.proofs.PlaceLemmas.{not_there, there}
-use Rattle.round_core.proofs.SameLaws.{same_unit-eq, same_unit-refl}
+use Rattle.book_rules.specs.SameTests.{same_unit-eq, same_unit-refl}
 use Rattle.round_core.proofs.ShownLemmas.{finds, found-is}
 
 both_true : (a b : Bool) → (not a && b) ≡ true → (a ≡ false) × (b ≡ true)

@@ -8,8 +8,8 @@ use Rattle.call_context.specs.declared.node.Unit.{Unit as WorkUnit}
 use Rattle.call_context.specs.contracts.node.FramePartialEq.TheImpl as frame_impl
 use Rattle.call_context.specs.contracts.node.NodePartialEq.TheImpl as node_impl
 use Rattle.call_context.specs.contracts.node.UnitPartialEq.TheImpl as unit_impl
-use Rattle.round_core.specs.Same.{same_frame, same_node, same_unit}
-use Rattle.round_core.proofs.SameLaws.{same_frame-eq, same_frame-refl, same_node-eq, same_node-refl, same_unit-eq, same_unit-refl}
+use Rattle.book_rules.specs.Same.{same_frame, same_node, same_unit}
+use Rattle.book_rules.specs.SameTests.{same_frame-eq, same_frame-refl, same_node-eq, same_node-refl, same_unit-eq, same_unit-refl}
 
 abbrev pub frame_eq : Frame → Frame → Bool
 frame_eq = (frame_impl.ghosts).eq

@@ -7,7 +7,7 @@ use Rattle.round_core.specs.declared.agenda.Agenda.{Agenda}
 use Rattle.round_core.specs.declared.raised.Risen.{Risen}
 use Rattle.round_core.specs.Agenda.{IsIn}
 use Rattle.round_core.specs.Expected.{Grows, ExpectsNode, ExpectsRows}
-use Rattle.round_core.specs.Machine.{Held, Done, place_of}
+use Rattle.book_rules.specs.Machine.{Held, Done, place_of}
 use Rattle.round_core.specs.Raise.{with_all, held_of, held_rows, ArePlaced}
 use Rattle.round_core.proofs.ListLemmas.{in-map}
 

@@ -6,14 +6,15 @@ use Rattle.std.specs.Option.{option_map}
 use Rattle.std.proofs.Common.{refl, sym, ◌∙◌, ap, subst, inl, inr, arith}
 use Rattle.call_context.specs.declared.node.Frame.{Frame}
 use Rattle.call_context.specs.declared.node.Node.{Node}
+use Rattle.call_context.specs.declared.node.Node.TheVariants.{At, Exit}
 use Rattle.call_context.specs.declared.node.Unit.{Unit as WorkUnit}
-use Rattle.call_context.specs.declared.node.Unit.TheVariants.{One}
+use Rattle.call_context.specs.declared.node.Unit.TheVariants.{One, Back}
 use Rattle.chip_analysis.specs.declared.chip.Work.{Work}
-use Rattle.round_core.specs.declared.versions.Versions.{Versions}
+use Rattle.book_rules.specs.declared.versions.Versions.{Versions}
 use Rattle.round_core.specs.Former.{no_unit, is_no_unit, marked_pair, marked, live_among}
-use Rattle.round_core.specs.Machine.{Done, done_at, waits_for}
+use Rattle.book_rules.specs.Machine.{Done, IsOfLocation, done_at, waits_for}
 use Rattle.round_core.specs.Rows.{mark_part, value_part}
-use Rattle.round_core.specs.Same.{same_frame}
+use Rattle.book_rules.specs.Same.{same_frame}
 use Rattle.round_core.specs.Works.{done_of, work_of}
 use Rattle.round_core.proofs.Cases.{truth, if_true, if_false, get-index, map-get}
 use Rattle.round_core.proofs.DerivedTests.{TellsEqual, unit_eq, unit_eq-same}
@@ -154,3 +155,14 @@ pub units-rows : {A : Type 0} (rows : List (WorkUnit × (Work A × Versions)))
     → AllByRecursion (λ unit. is_no_unit unit ≡ false) (keys_of rows)
 units-rows [] all = tt
 units-rows (row ∷ rows) all = (all.0, units-rows rows all.1)
+
+-- each unit that was done is some unit
+is_some_unit : (unit : WorkUnit) → IsOfLocation unit → is_no_unit unit ≡ false
+is_some_unit (One (At pc calls frame)) s = refl
+is_some_unit (One (Exit pc frame)) s = absurd s
+is_some_unit (Back node exit) s = refl
+
+pub all_some_units : {A : Type 0} (ds : List (Done A)) → AllByRecursion (λ (d : Done A). IsOfLocation d.unit) ds
+    → AllByRecursion (λ (d : Done A). is_no_unit d.unit ≡ false) ds
+all_some_units [] are = tt
+all_some_units (d ∷ ds) are = (is_some_unit d.unit are.0, all_some_units ds are.1)

@@ -7,9 +7,9 @@ use Rattle.std.proofs.Common.{refl, sym, ◌∙◌, ap, inl, inr, arith}
 use Rattle.std.proofs.lemmas.Bool.Decides.{nat_tests}
 use Rattle.indexmap.specs.IndexMap.{insert_entry}
 use Rattle.call_context.specs.declared.node.Node.{Node}
-use Rattle.round_core.specs.Same.{same_node}
-use Rattle.round_core.proofs.SameLaws.{same_node-eq}
-use Rattle.round_core.specs.Machine.{Held, held_at, with_held, place_of, version_of}
+use Rattle.book_rules.specs.Same.{same_node}
+use Rattle.book_rules.specs.SameTests.{same_node-eq}
+use Rattle.book_rules.specs.Machine.{Held, held_at, with_held, place_of, version_of}
 use Rattle.round_core.specs.Nodes.{held_of, big_part}
 use Rattle.round_core.specs.Rows.{mark_part, value_part}
 use Rattle.round_core.proofs.Cases.{truth, if_true, if_false, no_place, map-get, length-parts}

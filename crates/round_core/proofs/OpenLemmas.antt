@@ -7,11 +7,11 @@ use Rattle.call_context.specs.declared.node.Node.{Node}
 use Rattle.call_context.specs.declared.node.Node.TheVariants.{At, Exit}
 use Rattle.call_context.specs.declared.node.Unit.{Unit as WorkUnit}
 use Rattle.call_context.specs.declared.node.Unit.TheVariants as unit
-use Rattle.round_core.specs.Same.{same_node}
-use Rattle.round_core.proofs.SameLaws.{same_node-eq}
+use Rattle.book_rules.specs.Same.{same_node}
+use Rattle.book_rules.specs.SameTests.{same_node-eq}
 use Rattle.round_core.specs.declared.parts.Parts.{Parts}
 use Rattle.round_core.specs.declared.place.Place.TheVariants as place
-use Rattle.round_core.specs.Machine.{Held, place_of, held_at, IsUnit}
+use Rattle.book_rules.specs.Machine.{Held, place_of, held_at, IsUnit}
 use Rattle.round_core.specs.Agenda.{AreDifferent, IsIn, places_in}
 use Rattle.round_core.specs.Opening.{one_node, ExpectsOne}
 use Rattle.round_core.specs.Shown.{IsExpected, Shows}

@@ -5,11 +5,11 @@ use Rattle.std.proofs.Common.{refl, sym, ◌∙◌, ap, subst, inl, inr, arith, 
 use Rattle.call_context.specs.declared.node.Node.TheVariants.{At, Exit}
 use Rattle.call_context.specs.declared.node.Unit.{Unit as WorkUnit}
 use Rattle.call_context.specs.declared.node.Unit.TheVariants.{One, Back}
-use Rattle.round_core.specs.Same.{same_unit}
-use Rattle.round_core.proofs.SameLaws.{same_unit-eq, same_unit-refl}
+use Rattle.book_rules.specs.Same.{same_unit}
+use Rattle.book_rules.specs.SameTests.{same_unit-eq, same_unit-refl}
 use Rattle.round_core.specs.declared.place.Place.{Place}
 use Rattle.round_core.specs.declared.parts.Parts.{Parts}
-use Rattle.round_core.specs.Machine.{BookState, Out, out_at, without, IsUnit, IsClaimable}
+use Rattle.book_rules.specs.Machine.{BookState, Out, out_at, without, IsUnit, IsClaimable}
 use Rattle.round_core.specs.Claims.{placed}
 use Rattle.round_core.specs.Turns.{place_out, AreGivenBack, Standing, TakesHome}
 use Rattle.round_core.specs.Agenda.{AreDifferent, IsIn}

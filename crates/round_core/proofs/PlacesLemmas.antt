@@ -5,8 +5,8 @@ use Rattle.std.specs.Map.{lookup}
 use Rattle.std.proofs.Common.{refl, sym, ◌∙◌, ap, subst, inl, inr}
 use Rattle.call_context.specs.declared.node.Frame.{Frame}
 use Rattle.round_core.proofs.DerivedTests.{TellsEqual, frame_eq, frame_eq-same}
-use Rattle.round_core.specs.Same.{same_frame}
-use Rattle.round_core.proofs.SameLaws.{same_frame-eq, same_frame-refl}
+use Rattle.book_rules.specs.Same.{same_frame}
+use Rattle.book_rules.specs.SameTests.{same_frame-eq, same_frame-refl}
 use Rattle.round_core.specs.Agenda.{IsIn, places_in, KeepsPlaces}
 use Rattle.round_core.proofs.Cases.{truth, if_true, if_false}
 

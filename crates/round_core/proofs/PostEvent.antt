@@ -3,17 +3,17 @@ use Rattle.std.specs.Prelude.{◌≡◌, ℕ, Some, List, [], ◌∷◌, ◌++�
 use Rattle.std.proofs.Common.{sym, ◌∙◌, ap, subst, inl, inr}
 use Rattle.chip_analysis.specs.Analysis.{Analysis}
 use Rattle.chip_analysis.specs.declared.chip.Work.{Work}
-use Rattle.round_core.specs.declared.event.Event.{Event}
-use Rattle.round_core.specs.declared.event.Event.TheVariants.{Post}
+use Rattle.book_rules.specs.declared.event.Event.{Event}
+use Rattle.book_rules.specs.declared.event.Event.TheVariants.{Post}
 use Rattle.round_core.specs.declared.parts.Parts.{Parts}
-use Rattle.round_core.specs.Machine.{BookState, Held, Out, out_at, without, with_done, all_raised, posted, replay}
+use Rattle.book_rules.specs.Machine.{BookState, Held, Out, out_at, without, with_done, all_raised, posted, replay}
 use Rattle.round_core.specs.Agenda.{IsIn}
 use Rattle.round_core.specs.Expected.{Grows, ExpectsRows, ExpectsUnit}
 use Rattle.round_core.specs.Prepared.{IsPrepared}
 use Rattle.round_core.specs.Raise.{with_all}
 use Rattle.round_core.specs.Shown.{Shows}
 use Rattle.round_core.specs.Turns.{place_out, AreGivenBack, TakesHome}
-use Rattle.round_core.proofs.MachineLemmas.{replay-more, after-post}
+use Rattle.book_rules.specs.Replays.{replay-push, post-leaves}
 use Rattle.round_core.proofs.PostLemmas.{behind-shown}
 
 module _ {A : Type 0} where
@@ -62,7 +62,7 @@ module _ {A : Type 0} (m : Analysis A) where
       → with_all (replay m journal).nodes raised ≡ all_raised m (replay m journal).nodes work.posts
       → replay m journal' ≡ with_nodes (replay m journal) o work (with_all (replay m journal).nodes raised)
   post-behind journal journal' seat o work raised e is own rise =
-      ap (λ j. replay m j) e ∙ replay-more m journal (Post seat o.unit) ∙ after-post m (replay m journal) seat o.unit
+      ap (λ j. replay m j) e ∙ replay-push m journal (Post seat o.unit) ∙ post-leaves m (replay m journal) seat o.unit
       ∙ ap (λ t. posted m (replay m journal) t) is
       ∙ ap (λ w. with_work (replay m journal) o w) (sym own)
       ∙ ap (λ hs. with_nodes (replay m journal) o work hs) (sym rise)

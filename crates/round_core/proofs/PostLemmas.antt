@@ -9,14 +9,14 @@ use Rattle.call_context.specs.declared.node.Node.{Node}
 use Rattle.call_context.specs.declared.node.Node.TheVariants.{At, Exit}
 use Rattle.call_context.specs.declared.node.Unit.{Unit as WorkUnit}
 use Rattle.call_context.specs.declared.node.Unit.TheVariants as unit
-use Rattle.round_core.specs.Same.{same_frame, same_node, same_unit}
-use Rattle.round_core.proofs.SameLaws.{same_node-eq, same_unit-eq, same_unit-refl}
+use Rattle.book_rules.specs.Same.{same_frame, same_node, same_unit}
+use Rattle.book_rules.specs.SameTests.{same_node-eq, same_unit-eq, same_unit-refl}
 use Rattle.round_core.specs.declared.agenda.Agenda.{Agenda}
 use Rattle.round_core.specs.declared.parts.Parts.{Parts}
 use Rattle.round_core.specs.declared.place.Place.{Place}
 use Rattle.round_core.specs.declared.place.Place.TheVariants as place
-use Rattle.round_core.specs.declared.versions.Versions.{Versions}
-use Rattle.round_core.specs.Machine.{BookState, Held, Done, Out, held_at, done_at, out_at, place_of, version_of, versions_of, waits_for, without, with_done, IsUnit, HasRisen, IsClaimable}
+use Rattle.book_rules.specs.declared.versions.Versions.{Versions}
+use Rattle.book_rules.specs.Machine.{BookState, Held, Done, Out, held_at, done_at, out_at, place_of, version_of, versions_of, waits_for, without, with_done, IsUnit, HasRisen, IsClaimable}
 use Rattle.round_core.specs.Agenda.{IsIn, places_in}
 use Rattle.round_core.specs.Claims.{placed}
 use Rattle.round_core.specs.Expected.{Grows, ExpectsNode, ExpectsRows, ExpectsUnit}

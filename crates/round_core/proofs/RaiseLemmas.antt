@@ -3,10 +3,10 @@ use Rattle.std.specs.Prelude.{◌≡◌, ℕ, ◌+◌, Bool, true, false, if◌t
 use Rattle.std.specs.Option.{option_map}
 use Rattle.std.proofs.Common.{refl, sym, ◌∙◌, ap, subst, inl, inr, arith}
 use Rattle.call_context.specs.declared.node.Node.{Node}
-use Rattle.round_core.specs.Same.{same_node}
-use Rattle.round_core.proofs.SameLaws.{same_node-eq, same_node-refl}
+use Rattle.book_rules.specs.Same.{same_node}
+use Rattle.book_rules.specs.SameTests.{same_node-eq, same_node-refl}
 use Rattle.chip_analysis.specs.Analysis.{Analysis}
-use Rattle.round_core.specs.Machine.{Held, held_at, place_of, with_held, risen, raised, all_raised}
+use Rattle.book_rules.specs.Machine.{Held, held_at, place_of, with_held, risen, raised, all_raised}
 use Rattle.round_core.specs.Raise.{with_all}
 use Rattle.round_core.specs.Shown.{AreDistinct}
 use Rattle.round_core.proofs.Cases.{truth, if_true, if_false, next_place, no_place}
@@ -211,7 +211,7 @@ module _ {A : Type 0} where
 
   module _ (m : Analysis A) where
     risen-node : (h : Held A) (s : A) (b : Bool)
-        → (if b then h else record { node = h.node; state = Rattle.round_core.specs.Machine.risen_state m h.node h.state s (h.rises + 1); rises = h.rises + 1 }).node ≡ h.node
+        → (if b then h else record { node = h.node; state = Rattle.book_rules.specs.Machine.risen_state m h.node h.state s (h.rises + 1); rises = h.rises + 1 }).node ≡ h.node
     risen-node h s true = refl
     risen-node h s false = refl
 

@@ -4,10 +4,10 @@ use Rattle.std.specs.Option.{option_map}
 use Rattle.std.proofs.Common.{refl, sym, ◌∙◌, ap, subst, inl, inr, arith}
 use Rattle.std.proofs.lemmas.Bool.Decides.{nat_tests}
 use Rattle.call_context.specs.declared.node.Node.{Node}
-use Rattle.round_core.specs.Same.{same_node}
+use Rattle.book_rules.specs.Same.{same_node}
 use Rattle.round_core.specs.declared.raised.Risen.{Risen}
 use Rattle.round_core.specs.Agenda.{IsIn}
-use Rattle.round_core.specs.Machine.{Held, held_at, place_of, with_held}
+use Rattle.book_rules.specs.Machine.{Held, held_at, place_of, with_held}
 use Rattle.round_core.specs.Raise.{with_all, held_of, held_rows, place_for, ArePlaced}
 use Rattle.round_core.specs.Shown.{AreDistinct}
 use Rattle.round_core.proofs.Cases.{truth, if_true, if_false, next_place, no_place, get-bound, get-map}

@@ -7,7 +7,7 @@ use Rattle.std.proofs.Common.{refl, sym, ◌∙◌, ap, subst, inl, inr}
 use Rattle.call_context.specs.declared.node.Unit.{Unit as WorkUnit}
 use Rattle.round_core.specs.declared.place.Place.{Place}
 use Rattle.round_core.specs.declared.parts.Parts.{Parts}
-use Rattle.round_core.specs.Machine.{BookState, IsClaimable, IsFirst, NoneClaimable, HasClaimable}
+use Rattle.book_rules.specs.Machine.{BookState, IsClaimable, IsFirst, NoneClaimable, HasClaimable}
 use Rattle.round_core.specs.Claims.{placed, claimable_at}
 use Rattle.round_core.specs.Agenda.{IsIn}
 use Rattle.round_core.specs.Turns.{AreGivenBack, Standing}

@@ -4,11 +4,11 @@ use Rattle.std.specs.List.{remove}
 use Rattle.std.specs.Option.{option_map}
 use Rattle.std.proofs.Common.{refl, sym, ◌∙◌, ap, subst, inl, inr, arith}
 use Rattle.call_context.specs.declared.node.Unit.{Unit as WorkUnit}
-use Rattle.round_core.specs.Same.{same_unit}
+use Rattle.book_rules.specs.Same.{same_unit}
 use Rattle.round_core.specs.declared.place.Place.{Place}
 use Rattle.round_core.specs.Turns.{index_out, place_out, StandOnce}
 use Rattle.round_core.proofs.Cases.{truth, if_true, if_false, next_place, no_place, get-bound}
-use Rattle.round_core.proofs.SameLaws.{same_unit-eq, same_unit-off}
+use Rattle.book_rules.specs.SameTests.{same_unit-eq, same_unit-off}
 
 abbrev Entries : Type 0
 Entries = List (WorkUnit × Place)

@@ -7,13 +7,13 @@ use Rattle.std.proofs.Common.{refl, sym, ◌∙◌, ap, inl, inr}
 use Rattle.indexmap.specs.IndexMap.{insert_entry}
 use Rattle.call_context.specs.declared.node.Unit.{Unit as WorkUnit}
 use Rattle.chip_analysis.specs.declared.chip.Work.{Work}
-use Rattle.round_core.specs.declared.versions.Versions.{Versions}
-use Rattle.round_core.specs.Same.{same_unit}
-use Rattle.round_core.specs.Machine.{Done, done_at, with_done}
+use Rattle.book_rules.specs.declared.versions.Versions.{Versions}
+use Rattle.book_rules.specs.Same.{same_unit}
+use Rattle.book_rules.specs.Machine.{Done, done_at, with_done}
 use Rattle.round_core.specs.Rows.{value_part}
 use Rattle.round_core.specs.Works.{done_of}
 use Rattle.round_core.proofs.Cases.{truth, if_true, if_false}
-use Rattle.round_core.proofs.SameLaws.{same_unit-eq}
+use Rattle.book_rules.specs.SameTests.{same_unit-eq}
 
 module _ {A : Type 0} where
   pub values-works : (rows : List (WorkUnit × (Work A × Versions)))

@@ -3,7 +3,7 @@ use Rattle.std.specs.Prelude.{◌≡◌, ℕ, ◌⊎◌, List, [], ◌∷◌, un
 use Rattle.std.specs.declared.alloc.Global.{Global}
 use Rattle.std.specs.Map.{lookup}
 use Rattle.call_context.specs.declared.node.Frame.{Frame}
-use Rattle.round_core.specs.Same.{same_frame}
+use Rattle.book_rules.specs.Same.{same_frame}
 use Rattle.round_core.specs.declared.place.Place.{Place}
 
 -- an element of a list

@@ -5,12 +5,13 @@ use Rattle.chip_analysis.specs.Analysis.{Analysis}
 use Rattle.round_core.specs.declared.ahead.Looked.{Looked}
 use Rattle.round_core.specs.declared.met.MetNode.{MetNode}
 use Rattle.round_core.specs.declared.ticket.Done.{Done}
-use Rattle.round_core.specs.Machine.{Held, held_at, risen_state}
-use Rattle.round_core.specs.Stays.{AllStay}
+use Rattle.round_core.specs.Nodes.{IsHeld}
+use Rattle.book_rules.specs.Machine.{Held, held_at, risen_state}
+use Rattle.book_rules.specs.Stays.{AllStay}
 
 -- a node that was met is one of these
 abbrev pub IsMet : {A : Type 0} → List (Held A) → MetNode A → Type 0
-IsMet nodes met = held_at nodes met.node ≡ Some (record { node = met.node; state = met.state; rises = met.rises })
+IsMet nodes met = IsHeld nodes met.node met.state met.rises
 
 module _ {A : Type 0} (m : Analysis A) where
   -- what a post makes of a held state: nothing where it is within that, else the state behind one more rise

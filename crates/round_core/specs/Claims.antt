@@ -1,5 +1,5 @@
 -- Units by the places of their nodes, and whether they can be claimed.
-use Rattle.std.specs.Prelude.{◌||◌, Bool, true, nat_lt, is_some, if◌then◌else◌, Option, None, Some, List, slice_get, option_and_then}
+use Rattle.std.specs.Prelude.{◌≡◌, ◌||◌, Bool, true, nat_lt, is_some, if◌then◌else◌, Option, None, Some, List, slice_get, option_and_then, MatchOption}
 use Rattle.std.specs.Option.{option_map}
 use Rattle.call_context.specs.declared.node.Node.{Node}
 use Rattle.call_context.specs.declared.node.Node.TheVariants.{At, Exit}
@@ -7,8 +7,8 @@ use Rattle.call_context.specs.declared.node.Unit.{Unit as WorkUnit}
 use Rattle.call_context.specs.declared.node.Unit.TheVariants as unit
 use Rattle.round_core.specs.declared.place.Place.{Place}
 use Rattle.round_core.specs.declared.place.Place.TheVariants as place
-use Rattle.round_core.specs.declared.versions.Versions.{Versions}
-use Rattle.round_core.specs.Machine.{Held, Done, done_at, place_of, waits_for, versions_of}
+use Rattle.book_rules.specs.declared.versions.Versions.{Versions}
+use Rattle.book_rules.specs.Machine.{BookState, Held, Done, IsFirst, NoneClaimable, done_at, place_of, waits_for, versions_of}
 use Rattle.round_core.specs.Turns.{place_out}
 
 -- the unit of a location's own work
@@ -45,3 +45,7 @@ module _ {A : Type 0} where
   claimable_at nodes done out place =
       option_and_then (λ u. if is_some (place_out out u) then None else if due_of (done_at done u) (versions_of nodes u) then Some u else None)
       (unit_at nodes done place)
+
+  -- the first unit that can be claimed, with its place, or none
+  abbrev pub IsNext : BookState A → Option (Place × WorkUnit) → Type 0
+  IsNext b next = MatchOption next (NoneClaimable b) (λ first. IsFirst b first.1 × (placed b.nodes first.1 ≡ Some first.0))

@@ -7,8 +7,8 @@ use Rattle.call_context.specs.declared.node.Unit.{Unit as WorkUnit}
 use Rattle.call_context.specs.declared.node.Unit.TheVariants as unit
 use Rattle.round_core.specs.declared.agenda.Agenda.{Agenda}
 use Rattle.round_core.specs.declared.place.Place.TheVariants as place
-use Rattle.round_core.specs.declared.versions.Versions.{Versions}
-use Rattle.round_core.specs.Machine.{Done, HasRisen, Held, place_of, versions_of, waits_for}
+use Rattle.book_rules.specs.declared.versions.Versions.{Versions}
+use Rattle.book_rules.specs.Machine.{Done, HasRisen, Held, place_of, versions_of, waits_for}
 use Rattle.round_core.specs.Agenda.{IsIn, places_in, KeepsPlaces, KeepsCandidates}
 use Rattle.round_core.specs.Returns.{HasReturnsTo, HasReturnsFrom}
 

@@ -1,13 +1,9 @@
 pub mod Agenda
 pub mod Ahead
 pub mod Answers
-pub mod Claimable
 pub mod Claims
-pub mod Counts
 pub mod Expected
 pub mod Former
-pub mod Kept
-pub mod Machine
 pub mod Nodes
 pub mod Opening
 pub mod Prepared
@@ -15,10 +11,7 @@ pub mod Raise
 pub mod Reserved
 pub mod Returns
 pub mod Rows
-pub mod Same
 pub mod Shown
-pub mod Stays
-pub mod Table
 pub mod Tickets
 pub mod Turns
 pub mod Works

@@ -5,7 +5,7 @@ use Rattle.call_context.specs.declared.node.Node.TheVariants.{At, Exit}
 use Rattle.round_core.specs.declared.agenda.Agenda.{Agenda}
 use Rattle.round_core.specs.declared.place.Place.TheVariants as place
 use Rattle.round_core.specs.Agenda.{IsIn, places_in}
-use Rattle.round_core.specs.Machine.{BookState}
+use Rattle.book_rules.specs.Machine.{BookState}
 
 abbrev pub one_node : {A : Type 0} → Node → A → BookState A
 one_node node state = record { nodes = record { node = node; state = state; rises = 1 } ∷ []; done = []; out = [] }

@@ -4,7 +4,7 @@ use Rattle.call_context.specs.declared.node.Node.{Node}
 use Rattle.round_core.specs.declared.raised.Risen.{Risen}
 use Rattle.round_core.specs.declared.raised.Raised.{Raised}
 use Rattle.round_core.specs.Agenda.{IsIn}
-use Rattle.round_core.specs.Machine.{Held, place_of, with_held}
+use Rattle.book_rules.specs.Machine.{Held, place_of, with_held}
 use Rattle.round_core.specs.Shown.{AreDistinct}
 
 module _ {A : Type 0} where
@@ -20,6 +20,10 @@ module _ {A : Type 0} where
   abbrev pub held_rows : List (Risen A) → List (Held A)
   held_rows rows = map held_of rows
 
+  -- the nodes of a book behind what posts have raised of them
+  abbrev pub risen_over : List (Held A) → Raised A → List (Held A)
+  risen_over nodes raised = with_all nodes (held_rows raised.rows.items)
+
   -- the place of a node, or the one behind all, which a new node gets
   abbrev pub place_for : List (Held A) → Node → ℕ
   place_for nodes node = unwrap_or (place_of nodes node) (length nodes)
@@ -32,4 +36,4 @@ module _ {A : Type 0} where
   pub record RisesOver (nodes : List (Held A)) (raised : Raised A) : Type 0 where
     pub distinct : AreDistinct (held_rows raised.rows.items)
     pub placed : ArePlaced nodes raised.rows.items
-    pub next : raised.next ≡ length (with_all nodes (held_rows raised.rows.items))
+    pub next : raised.next ≡ length (risen_over nodes raised)

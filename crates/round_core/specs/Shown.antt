@@ -10,8 +10,8 @@ use Rattle.round_core.specs.declared.place.Place.{Place}
 use Rattle.round_core.specs.contracts.place.PlaceOrd.TheImpl as place_impl
 use Rattle.round_core.specs.declared.parts.Parts.{Parts}
 use Rattle.chip_analysis.specs.Analysis.{Analysis}
-use Rattle.round_core.specs.declared.event.Event.{Event}
-use Rattle.round_core.specs.Machine.{BookState, Held, Out, held_at, out_at, place_of, waits_for, IsClaimable, IsLegalJournal, replay}
+use Rattle.book_rules.specs.declared.event.Event.{Event}
+use Rattle.book_rules.specs.Machine.{BookState, Held, Out, held_at, out_at, place_of, waits_for, IsClaimable, IsLegalJournal, replay}
 use Rattle.round_core.specs.Claims.{placed, claimable_at}
 use Rattle.round_core.specs.Agenda.{IsIn, places_in}
 use Rattle.round_core.specs.Turns.{place_out, AreGivenBack}

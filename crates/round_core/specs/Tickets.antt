@@ -1,7 +1,7 @@
 -- Tickets of units.
 use Rattle.std.specs.Prelude.{◌≡◌, ℕ, Some, List}
 use Rattle.call_context.specs.declared.node.Unit.{Unit as WorkUnit}
-use Rattle.round_core.specs.Machine.{Held, Out, inputs_of, versions_of}
+use Rattle.book_rules.specs.Machine.{Held, Out, inputs_of, versions_of}
 
 -- a ticket with copies of a unit's inputs, over these nodes
 pub record IsTicketOf {A : Type 0} (nodes : List (Held A)) (seat : ℕ) (unit : WorkUnit) (ticket : Out A) : Type 0 where

@@ -4,8 +4,8 @@ use Rattle.std.specs.Map.{lookup}
 use Rattle.std.specs.Option.{option_map}
 use Rattle.call_context.specs.declared.node.Unit.{Unit as WorkUnit}
 use Rattle.round_core.specs.Agenda.{AreDifferent, IsIn}
-use Rattle.round_core.specs.Same.{same_unit}
-use Rattle.round_core.specs.declared.event.Event.{Event}
+use Rattle.book_rules.specs.Same.{same_unit}
+use Rattle.book_rules.specs.declared.event.Event.{Event}
 use Rattle.round_core.specs.declared.place.Place.{Place}
 
 -- what happened, the units that are out, and the places that were given back since the last claim

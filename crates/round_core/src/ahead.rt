@@ -2,7 +2,7 @@
 
 ghost use Rattle.std.specs.Prelude.{◌≡◌, ◌∷◌, [], List, IfOk, IfSome, MatchOption};
 ghost use Rattle.round_core.specs.Ahead.{AreLooked, IsAhead, IsLooked, IsMet};
-ghost use Rattle.round_core.specs.Machine.{Held};
+ghost use Rattle.book_rules.specs.Machine.{Held};
 
 use crate::key::same_node;
 use crate::met::{Met, MetNode};

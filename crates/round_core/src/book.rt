@@ -1,13 +1,13 @@
 //! The book and its readings.
 
 ghost use Rattle.std.specs.Prelude.{◌≡◌, ◌↔◌, ◌<◌, ◌≤◌, ◌^◌, ℕ, [], IsTrue, IfOk};
-ghost use Rattle.round_core.specs.Claimable.{HasAtLeast};
-ghost use Rattle.round_core.specs.Kept.{nodes_of, works_of, is_live, live_pairs};
-ghost use Rattle.round_core.specs.Machine.{replay, HasClaimable, IsFinished, IsLegalJournal};
+ghost use Rattle.book_rules.specs.Claimable.{HasAtLeast};
+ghost use Rattle.book_rules.specs.Kept.{nodes_of, works_of, is_live, live_pairs};
+ghost use Rattle.book_rules.specs.Machine.{replay, HasClaimable, IsFinished, IsLegalJournal};
 
-use crate::event::Event;
 use crate::parts::Parts;
 use crate::spent::Spent;
+use book_rules::{Event, works_are_of_locations};
 use call_context::{Node, Unit};
 use chip_analysis::{Chip, Work};
 use no_memory::Memory;
@@ -27,7 +27,7 @@ pub struct Book<C: Chip> {
 }
 
 impl<C: Chip> Model for Book<C> {
-    ghost use Rattle.round_core.specs.Kept.{Kept};
+    ghost use Rattle.book_rules.specs.Kept.{Kept};
     ghost use Rattle.round_core.specs.Shown.{IsBook};
 
     ghost Value = { Kept C.Base };
@@ -97,6 +97,7 @@ impl<C: Chip> Book<C> {
         ensures works { result.2.items ≡ live_pairs (replay (C.analysis self.base) self.journal) }
         ensures journal { result.3.items ≡ self.journal }
     {
+        works_are_of_locations::<C>();
         let Book {
             chip,
             parts,

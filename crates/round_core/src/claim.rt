@@ -2,10 +2,11 @@
 
 ghost use Rattle.std.specs.Prelude.{◌≡◌, Some, IfOk, OnErr};
 ghost use Rattle.round_core.specs.Answers.{AnswersClaim};
-ghost use Rattle.round_core.specs.Kept.{with_event, IsOutOf};
-ghost use Rattle.round_core.specs.Machine.{Held, held_at, replay};
+ghost use Rattle.book_rules.specs.Kept.{with_event, IsOutOf};
+ghost use Rattle.book_rules.specs.Machine.{replay};
+ghost use Rattle.round_core.specs.Nodes.{IsHeld};
 ghost use Rattle.round_core.specs.Tickets.{IsTicketOf};
-ghost use Rattle.round_core.specs.declared.event.Event.{Event};
+ghost use Rattle.book_rules.specs.declared.event.Event.{Event};
 
 use crate::book::Book;
 use crate::met::{Met, met_by};
@@ -13,7 +14,7 @@ use crate::nodes::Nodes;
 use crate::parts::Parts;
 use crate::place::Place;
 use crate::ticket::{Claimed, Ticket};
-use crate::versions::Versions;
+use book_rules::Versions;
 use call_context::{Node, Unit};
 use chip_analysis::Chip;
 use no_memory::Memory;
@@ -27,7 +28,7 @@ fn copy_of<C: Chip>(
     node: &Node,
     place: usize,
 ) -> Result<(C::Abs, u32), Memory>
-    ensures { IfOk result (λ copy. held_at nodes.now.rows node.now ≡ Some (record { node = node.now; state = copy.0; rises = copy.1 })) }
+    ensures { IfOk result (λ copy. IsHeld nodes.now.rows node.now copy.0 copy.1) }
 {
     match nodes.find_near(node, place) {
         Some((_, state, rises)) => Ok((chip.copy(alloc, state)?, rises)),

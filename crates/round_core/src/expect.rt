@@ -6,7 +6,7 @@ ghost use Rattle.round_core.specs.Agenda.{IsIn, places_in, KeepsCandidates, Keep
 ghost use Rattle.round_core.specs.Expected.{Grows, ExpectsNode, ExpectsUnit};
 ghost use Rattle.round_core.specs.declared.raised.Risen.{Risen};
 ghost use Rattle.round_core.specs.Returns.{HasReturnsTo, HasReturnsFrom};
-ghost use Rattle.round_core.specs.Machine.{HasRisen, waits_for};
+ghost use Rattle.book_rules.specs.Machine.{HasRisen, waits_for};
 
 use crate::agenda::Agenda;
 use crate::candidates::{add_candidate, add_returns_from, add_returns_to};
@@ -14,8 +14,8 @@ use crate::nodes::Nodes;
 use crate::place::Place;
 use crate::places::Places;
 use crate::raised::Risen;
-use crate::versions::Versions;
 use crate::works::Works;
+use book_rules::Versions;
 use call_context::{Frame, Node, Unit};
 use no_memory::Memory;
 use std::collections::BTreeSet;

@@ -2,7 +2,7 @@
 //! or found equal without.
 
 ghost use Rattle.std.specs.Prelude.{◌≡◌};
-ghost use Rattle.round_core.specs.Same.{same_node, same_numbers, same_unit};
+ghost use Rattle.book_rules.specs.Same.{same_node, same_numbers, same_unit};
 
 use call_context::{Calls, Node, Unit, equal_nodes_are_one};
 use std::hash::Hash;

@@ -31,7 +31,7 @@ impl<A> Model for Met<A> {
     ghost use Rattle.std.specs.Prelude.{List};
     ghost use Rattle.std.specs.List.{AllByRecursion};
     ghost use Rattle.round_core.specs.Ahead.{IsMet};
-    ghost use Rattle.round_core.specs.Machine.{Held};
+    ghost use Rattle.book_rules.specs.Machine.{Held};
 
     ghost Value = { List (Held A) };
 

@@ -2,9 +2,10 @@
 
 ghost use Rattle.std.specs.Prelude.{◌≡◌, ◌≤◌, ◌+◌, ◌<◌, [], map, nat_lt, if◌then◌else◌, IfOk, OnOk, IfSome, MatchOption, length, slice_get, Some, None, ◌^◌, ℕ};
 ghost use Rattle.std.specs.Option.{option_map};
-ghost use Rattle.round_core.specs.Machine.{Held, held_at, with_held, place_of, version_of};
+ghost use Rattle.book_rules.specs.Machine.{Held, held_at, with_held, place_of, version_of};
+ghost use Rattle.round_core.specs.Nodes.{IsHeld};
 ghost use Rattle.round_core.specs.Opening.{one_node};
-ghost use Rattle.round_core.specs.Raise.{held_rows, place_for, with_all, ArePlaced};
+ghost use Rattle.round_core.specs.Raise.{place_for, risen_over, ArePlaced};
 
 use crate::raised::{Raised, Risen};
 use crate::spent::Spent;
@@ -30,7 +31,7 @@ fn known_place(place: usize, len: usize) -> Option<usize>
 impl<A> Model for Nodes<A> {
     ghost use Rattle.std.specs.Prelude.{map};
     ghost use Rattle.round_core.specs.Rows.{Rows};
-    ghost use Rattle.round_core.specs.Machine.{Held};
+    ghost use Rattle.book_rules.specs.Machine.{Held};
     ghost use Rattle.round_core.specs.Nodes.{held_of};
 
     ghost Value = { Rows (Held A) };
@@ -78,7 +79,8 @@ impl<A> Nodes<A> {
     /// The place of a node, its state, and how often that rose, which are quickly found where the guess is right.
     pub fn find_near(&self, node: &Node, guess: usize) -> Option<(usize, &A, u32)>
         ensures place { option_map (λ found. found.0) result ≡ place_of self.now.rows node.now }
-        ensures held { MatchOption result (held_at self.now.rows node.now ≡ None) (λ found. held_at self.now.rows node.now ≡ Some (record { node = node.now; state = found.1.now; rises = found.2 })) }
+        ensures held { MatchOption result (held_at self.now.rows node.now ≡ None)
+            (λ found. IsHeld self.now.rows node.now found.1.now found.2) }
     {
         equal_nodes_are_one();
         self.table.find_near(node, guess)
@@ -99,7 +101,8 @@ impl<A> Nodes<A> {
 
     /// The node at a place, its state, and how often that rose.
     pub fn at(&self, place: usize) -> Option<(&Node, &A, u32)>
-        ensures row { MatchOption result (length self.now.rows ≤ place) (λ found. slice_get self.now.rows place ≡ Some (record { node = found.0.now; state = found.1.now; rises = found.2 })) }
+        ensures row { MatchOption result (length self.now.rows ≤ place)
+            (λ found. slice_get self.now.rows place ≡ Some (record { node = found.0.now; state = found.1.now; rises = found.2 })) }
         ensures version { IfSome result (λ found. version_of self.now.rows found.0.now ≡ found.2) }
     {
         equal_nodes_are_one();
@@ -134,7 +137,7 @@ impl<A> Nodes<A> {
         A: Drop,
         requires room { length raised.rows.items ≤ self.old.room }
         requires placed { ArePlaced self.old.rows raised.rows.items }
-        ensures { self.new.rows ≡ with_all self.old.rows (held_rows raised.rows.items) }
+        ensures { self.new.rows ≡ risen_over self.old.rows raised }
     {
         for risen in raised.rows {
             let Risen {

@@ -4,28 +4,27 @@ ghost use Rattle.std.specs.Prelude.{count_by, min, false, filter, ◌≡◌, ◌
 ghost use Rattle.std.specs.List.{AllByRecursion};
 ghost use Rattle.std.specs.Option.{option_map};
 ghost use Rattle.round_core.specs.Agenda.{AreDifferent};
-ghost use Rattle.round_core.specs.Claimable.{HasAtLeast};
+ghost use Rattle.book_rules.specs.Claimable.{HasAtLeast};
 ghost use Rattle.round_core.specs.Former.{is_no_unit};
-ghost use Rattle.round_core.specs.Kept.{is_live};
-ghost use Rattle.round_core.specs.Claims.{one_of, back_of, unit_at, due_of, claimable_at, placed};
-ghost use Rattle.round_core.specs.Machine.{BookState, Out, done_at, out_at, versions_of, with_done, without, IsClaimable, IsFirst, IsFinished, NoneClaimable, HasClaimable};
+ghost use Rattle.book_rules.specs.Kept.{is_live};
+ghost use Rattle.round_core.specs.Claims.{one_of, back_of, unit_at, due_of, claimable_at, placed, IsNext};
+ghost use Rattle.book_rules.specs.Machine.{BookState, Out, done_at, out_at, versions_of, with_done, without, IsClaimable, IsFirst, IsFinished, NoneClaimable, HasClaimable};
 ghost use Rattle.round_core.specs.Turns.{place_out, TakesHome};
 ghost use Rattle.round_core.specs.Opening.{one_node};
 ghost use Rattle.round_core.specs.Shown.{Shows, StaysShown, found_at, is_new_return};
 ghost use Rattle.round_core.specs.Prepared.{IsPrepared};
-ghost use Rattle.round_core.specs.Raise.{held_rows, with_all, ArePlaced, RisesOver};
+ghost use Rattle.round_core.specs.Raise.{held_rows, risen_over, ArePlaced, RisesOver};
 
 use crate::agenda::Agenda;
 use crate::candidates::add_all;
-use crate::event::Event;
 use crate::expect::{expect_raised, expect_unit};
 use crate::nodes::Nodes;
 use crate::place::Place;
 use crate::raised::Raised;
 use crate::spent::Spent;
 use crate::turns::Turns;
-use crate::versions::Versions;
 use crate::works::Works;
+use book_rules::{Event, Versions};
 use call_context::{Frame, Node, Unit};
 use chip_analysis::Work;
 use no_memory::Memory;
@@ -155,8 +154,7 @@ impl<A> Parts<A> {
         requires { self.old.turns.returned ≡ [] }
         ensures shown { StaysShown self.old self.new }
         ensures turns { self.new.turns ≡ self.old.turns }
-        ensures found { (b : BookState A) → Shows b self.old
-            → MatchOption result (NoneClaimable b) (λ found. IsFirst b found.1 × (placed b.nodes found.1 ≡ Some found.0)) }
+        ensures found { (b : BookState A) → Shows b self.old → IsNext b result }
     {
         while let Some(place) = self.agenda.candidates.first().copied() {
             match self.claimable_at(place) {
@@ -281,7 +279,7 @@ impl<A> Parts<A> {
         ensures shown { StaysShown self.old self.new }
         ensures journal { self.new.turns.journal ≡ self.old.turns.journal }
         ensures returned { OnOk result (self.new.turns.returned ≡ []) }
-        ensures found { IfOk result (λ found. (b : BookState A) → Shows b self.old → MatchOption found (NoneClaimable b) (λ first. IsFirst b first.1 × (placed b.nodes first.1 ≡ Some first.0))) }
+        ensures found { IfOk result (λ found. (b : BookState A) → Shows b self.old → IsNext b found) }
     {
         self.take_returned()?;
         Ok(self.first())
@@ -292,7 +290,9 @@ impl<A> Parts<A> {
         requires home { place_out self.old.turns.out unit.now ≡ None }
         requires returned { self.old.turns.returned ≡ [] }
         ensures journal { OnOk result (self.new.turns.journal ≡ self.old.turns.journal ++ Event.Claim seat unit.now ∷ []) }
-        ensures out { OnOk result ((b : BookState A) (o : Out A) → Shows b self.old → IsClaimable b unit.now → placed b.nodes unit.now ≡ Some place → o.unit ≡ unit.now → Shows (record b { out = b.out ++ o ∷ [] }) self.new) }
+        ensures out { OnOk result ((b : BookState A) (o : Out A) → Shows b self.old → IsClaimable b unit.now
+            → placed b.nodes unit.now ≡ Some place → o.unit ≡ unit.now
+            → Shows (record b { out = b.out ++ o ∷ [] }) self.new) }
         ensures refused { OnErr result (self.new ≡ self.old) }
     {
         self.turns.claim(seat, unit, place)?;
@@ -350,8 +350,9 @@ impl<A: Drop> Parts<A> {
         requires placed { ArePlaced self.old.nodes.rows raised.rows.items }
         requires room { length raised.rows.items ≤ self.old.nodes.room }
         requires work_room { 0 < self.old.works.room }
-        ensures nodes { self.new.nodes.rows ≡ with_all self.old.nodes.rows (held_rows raised.rows.items) }
-        ensures works { self.new.works.rows ≡ with_done self.old.works.rows (record { unit = unit.now; work = work; versions = versions }) }
+        ensures nodes { self.new.nodes.rows ≡ risen_over self.old.nodes.rows raised }
+        ensures works { self.new.works.rows
+            ≡ with_done self.old.works.rows (record { unit = unit.now; work = work; versions = versions }) }
         ensures journal { self.new.turns.journal ≡ self.old.turns.journal ++ Event.Post seat unit.now ∷ [] }
         ensures out { TakesHome self.old.turns.out unit.now self.new.turns.out }
         ensures returned { self.new.turns.returned ≡ self.old.turns.returned }

@@ -2,12 +2,12 @@
 
 ghost use Rattle.std.specs.Prelude.{◌≡◌, OnOk, OnErr, IfOk, IfErr};
 ghost use Rattle.round_core.specs.Ahead.{AreBefore, IsAhead};
-ghost use Rattle.round_core.specs.Kept.{with_event, IsOutOf};
-ghost use Rattle.round_core.specs.Machine.{Out, all_raised, replay};
+ghost use Rattle.book_rules.specs.Kept.{with_event, IsOutOf};
+ghost use Rattle.book_rules.specs.Machine.{Out, all_raised, replay};
 ghost use Rattle.round_core.specs.Prepared.{IsPrepared};
-ghost use Rattle.round_core.specs.Raise.{held_rows, with_all, ArePlaced};
+ghost use Rattle.round_core.specs.Raise.{held_rows, risen_over, ArePlaced};
 ghost use Rattle.round_core.specs.Shown.{StaysShown};
-ghost use Rattle.round_core.specs.declared.event.Event.{Event};
+ghost use Rattle.book_rules.specs.declared.event.Event.{Event};
 
 use crate::ahead::Ahead;
 use crate::book::Book;
@@ -15,6 +15,7 @@ use crate::parts::Parts;
 use crate::raise::all_raised;
 use crate::raised::Raised;
 use crate::ticket::Done;
+use book_rules::outs_have_their_nodes;
 use chip_analysis::Chip;
 use no_memory::Memory;
 
@@ -29,8 +30,10 @@ fn prepare<C: Chip>(
     requires ahead { AreBefore (C.analysis (C.base chip.now)) parts.old.nodes.rows done.now.work.posts ahead }
     ensures shown { StaysShown parts.old parts.new }
     ensures journal { parts.new.turns.journal ≡ parts.old.turns.journal }
-    ensures raised { IfOk result (λ raised. with_all parts.old.nodes.rows (held_rows raised.rows.items) ≡ all_raised (C.analysis (C.base chip.now)) parts.old.nodes.rows done.now.work.posts) }
-    ensures prepared { IfOk result (λ raised. IsPrepared parts.old parts.new done.now.ticket.unit done.now.ticket.versions done.now.work.waits (held_rows raised.rows.items)) }
+    ensures raised { IfOk result (λ raised. risen_over parts.old.nodes.rows raised
+        ≡ all_raised (C.analysis (C.base chip.now)) parts.old.nodes.rows done.now.work.posts) }
+    ensures prepared { IfOk result (λ raised. IsPrepared parts.old parts.new done.now.ticket.unit
+        done.now.ticket.versions done.now.work.waits (held_rows raised.rows.items)) }
     ensures placed { IfOk result (λ raised. ArePlaced parts.old.nodes.rows raised.rows.items) }
 {
     let alloc = parts.nodes.allocator();
@@ -73,6 +76,7 @@ impl<C: Chip> Book<C> {
         ensures refused { OnErr result (self.new ≡ self.old) }
         ensures handed_back { IfErr result (λ refused. refused.1 ≡ done) }
     {
+        outs_have_their_nodes::<C>();
         match prepare(chip, &mut self.parts, &done, ahead) {
             Ok(raised) => {
                 let Done { ticket, work } = done;

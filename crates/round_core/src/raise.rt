@@ -1,10 +1,11 @@
 //! What posts make of nodes.
 
 ghost use Rattle.std.specs.Option.{option_map};
-ghost use Rattle.std.specs.Prelude.{◌≡◌, IfOk, IfSome, OnOk, MatchOption, Some, None};
+ghost use Rattle.std.specs.Prelude.{◌≡◌, IfOk, IfSome, OnOk, MatchOption, None};
 ghost use Rattle.round_core.specs.Ahead.{AreBefore, IsRow, IsStill};
-ghost use Rattle.round_core.specs.Machine.{held_at, place_of, risen_state, raised, all_raised};
-ghost use Rattle.round_core.specs.Raise.{held_rows, with_all, RisesOver};
+ghost use Rattle.round_core.specs.Nodes.{IsHeld};
+ghost use Rattle.book_rules.specs.Machine.{held_at, place_of, risen_state, raised, all_raised};
+ghost use Rattle.round_core.specs.Raise.{risen_over, RisesOver};
 
 use crate::ahead::{Ahead, Looked};
 use crate::nodes::Nodes;
@@ -52,8 +53,9 @@ fn held_in<'a, A>(
     guess: usize,
 ) -> Option<(usize, &'a A, u32)>
     requires { RisesOver nodes.now.rows earlier.now }
-    ensures place { option_map (λ found. found.0) result ≡ place_of (with_all nodes.now.rows (held_rows earlier.now.rows.items)) node.now }
-    ensures held { MatchOption result (held_at (with_all nodes.now.rows (held_rows earlier.now.rows.items)) node.now ≡ None) (λ found. held_at (with_all nodes.now.rows (held_rows earlier.now.rows.items)) node.now ≡ Some (record { node = node.now; state = found.1.now; rises = found.2 })) }
+    ensures place { option_map (λ found. found.0) result ≡ place_of (risen_over nodes.now.rows earlier.now) node.now }
+    ensures held { (let hs = risen_over nodes.now.rows earlier.now in
+        MatchOption result (held_at hs node.now ≡ None) (λ found. IsHeld hs node.now found.1.now found.2)) }
 {
     match index_of(earlier.rows.as_slice(), node) {
         Some(index) => {
@@ -95,7 +97,8 @@ fn row_of<C: Chip>(
     posted: &C::Abs,
     looked: Option<Looked<C::Abs>>,
 ) -> Result<Option<(C::Abs, u32)>, Memory>
-    requires looked { IfSome looked (λ l. l.rises ≡ rises → IsRow (C.analysis (C.base chip.now)) node.now held.now rises posted.now l.row) }
+    requires looked { IfSome looked (λ l. l.rises ≡ rises
+        → IsRow (C.analysis (C.base chip.now)) node.now held.now rises posted.now l.row) }
     ensures { IfOk result (IsRow (C.analysis (C.base chip.now)) node.now held.now rises posted.now) }
 {
     if let Some(looked) = looked {
@@ -118,9 +121,11 @@ fn raise_one<C: Chip>(
     looked: Option<Looked<C::Abs>>,
 ) -> Result<usize, Memory>
     requires over { RisesOver nodes.now.rows all.old }
-    requires looked { IfSome looked (IsStill (C.analysis (C.base chip.now)) (with_all nodes.now.rows (held_rows all.old.rows.items)) (node.now, posted.now)) }
+    requires looked { IfSome looked
+        (IsStill (C.analysis (C.base chip.now)) (risen_over nodes.now.rows all.old) (node.now, posted.now)) }
     ensures over { OnOk result (RisesOver nodes.now.rows all.new) }
-    ensures raised { OnOk result (with_all nodes.now.rows (held_rows all.new.rows.items) ≡ raised (C.analysis (C.base chip.now)) (with_all nodes.now.rows (held_rows all.old.rows.items)) (node.now, posted.now)) }
+    ensures raised { OnOk result (risen_over nodes.now.rows all.new
+        ≡ raised (C.analysis (C.base chip.now)) (risen_over nodes.now.rows all.old) (node.now, posted.now)) }
 {
     match held_in(nodes, all, node, guess) {
         Some((place, held, rises)) => {
@@ -160,7 +165,8 @@ pub fn all_raised<C: Chip>(
 ) -> Result<Raised<C::Abs>, Memory>
     requires ahead { AreBefore (C.analysis (C.base chip.now)) nodes.now.rows posts.now ahead }
     ensures over { IfOk result (RisesOver nodes.now.rows) }
-    ensures raised { IfOk result (λ all. with_all nodes.now.rows (held_rows all.rows.items) ≡ all_raised (C.analysis (C.base chip.now)) nodes.now.rows posts.now) }
+    ensures raised { IfOk result (λ all. risen_over nodes.now.rows all
+        ≡ all_raised (C.analysis (C.base chip.now)) nodes.now.rows posts.now) }
 {
     let mut all = Raised::new(alloc, nodes.len());
     let mut near = guess;

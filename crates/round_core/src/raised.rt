@@ -1,8 +1,8 @@
 //! The nodes that a post raises.
 
 ghost use Rattle.std.specs.Prelude.{◌≡◌, ◌==◌, ◌+◌, ◌<◌, [], List, IfOk, IfSome, OnOk, if◌then◌else◌, length};
-ghost use Rattle.round_core.specs.Machine.{Held, place_of, with_held};
-ghost use Rattle.round_core.specs.Raise.{held_of, held_rows, place_for, with_all, RisesOver};
+ghost use Rattle.book_rules.specs.Machine.{Held, place_of, with_held};
+ghost use Rattle.round_core.specs.Raise.{held_of, held_rows, place_for, risen_over, RisesOver};
 
 use crate::key::same_node;
 use call_context::Node;
@@ -69,7 +69,7 @@ impl<A: Drop> Raised<A> {
     pub fn put(&mut self, risen: Risen<A>) -> Result<usize, Memory>
         ensures rows { OnOk result (held_rows self.new.rows.items ≡ with_held (held_rows self.old.rows.items) (held_of risen)) }
         ensures over { (nodes : List (Held A)) → RisesOver nodes self.old
-            → risen.place ≡ place_for (with_all nodes (held_rows self.old.rows.items)) risen.node
+            → risen.place ≡ place_for (risen_over nodes self.old) risen.node
             → OnOk result (RisesOver nodes self.new) }
     {
         let place = risen.place;

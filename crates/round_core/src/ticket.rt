@@ -6,7 +6,7 @@ ghost use Rattle.std.specs.Option.{option_copied};
 use crate::met::Met;
 use crate::place::Place;
 use crate::spent::Rest;
-use crate::versions::Versions;
+use book_rules::Versions;
 use call_context::Unit;
 use chip_analysis::{Chip, Work};
 use std::marker::Model;
@@ -26,7 +26,7 @@ pub struct Ticket<C: Chip> {
 }
 
 impl<C: Chip> Model for Ticket<C> {
-    ghost use Rattle.round_core.specs.Machine.{Out};
+    ghost use Rattle.book_rules.specs.Machine.{Out};
 
     ghost Value = { Out C.Abs };
 

@@ -4,9 +4,9 @@ ghost use Rattle.std.specs.Prelude.{◌≡◌, ◌↔◌, ◌<◌, ◌++◌, ◌
 ghost use Rattle.round_core.specs.Turns.{index_out, place_out, StandOnce, TakesHome};
 ghost use Rattle.round_core.specs.declared.place.Place.{Place};
 
-use crate::event::Event;
 use crate::key::same_unit;
 use crate::place::Place;
+use book_rules::Event;
 use call_context::Unit;
 use no_memory::Memory;
 use std::alloc::Global;

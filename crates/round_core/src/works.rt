@@ -4,13 +4,13 @@ ghost use Rattle.std.specs.Prelude.{false, filter, ◌≡◌, ◌≤◌, ◌+◌
 ghost use Rattle.std.specs.List.{AllByRecursion};
 ghost use Rattle.std.specs.Option.{option_map};
 ghost use Rattle.round_core.specs.Former.{is_no_unit};
-ghost use Rattle.round_core.specs.Kept.{is_live};
-ghost use Rattle.round_core.specs.Machine.{Done, done_at, with_done, waits_for};
+ghost use Rattle.book_rules.specs.Kept.{is_live};
+ghost use Rattle.book_rules.specs.Machine.{Done, done_at, with_done, waits_for};
 
 use crate::former::{live_works, waits};
 use crate::place::Place;
 use crate::table::Table;
-use crate::versions::Versions;
+use book_rules::Versions;
 use call_context::{Frame, Node, Unit, equal_nodes_are_one};
 use chip_analysis::Work;
 use no_memory::Memory;
@@ -52,7 +52,7 @@ fn note(own: &mut Vec<Guess>, place: Place, guess: Guess) {
 impl<A> Model for Works<A> {
     ghost use Rattle.std.specs.Prelude.{map};
     ghost use Rattle.round_core.specs.Rows.{Rows};
-    ghost use Rattle.round_core.specs.Machine.{Done};
+    ghost use Rattle.book_rules.specs.Machine.{Done};
     ghost use Rattle.round_core.specs.Works.{done_of};
 
     ghost Value = { Rows (Done A) };

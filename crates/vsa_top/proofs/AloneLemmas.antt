@@ -1,7 +1,7 @@
 -- The reply that tells one worker's analysis is one alone.
 use Rattle.std.proofs.Common.{◌≡◌, ◌++◌, Bool, true, false, ap₂, ℕ, Option, Some, List, refl, sym, ap, ◌∙◌, subst, inl, inr}
 use Rattle.image.specs.declared.tail.Tail.TheVariants.{Blank}
-use Rattle.round_core.specs.declared.event.Event.{Event}
+use Rattle.book_rules.specs.declared.event.Event.{Event}
 use Rattle.analysis_limits.specs.declared.limits.Limits.{Limits}
 use Rattle.call_context.specs.declared.node.Node.{Node}
 use Rattle.cert_text.specs.Writing.{IsCert}
@@ -10,8 +10,8 @@ use Rattle.mcs51_flow.specs.Texts.{mcs51_texts}
 use Rattle.mcs51_flow.specs.declared.setting.Setting.{Setting as Mcs51Setting}
 use Rattle.msp430_flow.specs.Texts.{msp430_texts}
 use Rattle.msp430_flow.specs.declared.setting.Setting.{Setting as Msp430Setting}
-use Rattle.round_core.specs.Kept.{nodes_of}
-use Rattle.round_core.specs.Machine.{replay}
+use Rattle.book_rules.specs.Kept.{nodes_of}
+use Rattle.book_rules.specs.Machine.{replay}
 use Rattle.state_text.specs.Texts.{StateTexts}
 use Rattle.worker_rounds.specs.Turns.{FinishesAlone}
 use Rattle.mcs51_flow.specs.Standing.{instr_text as mcs51_text}

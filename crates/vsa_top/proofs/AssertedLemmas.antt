@@ -15,9 +15,9 @@ use Rattle.item_lines.specs.Line.{item_line_of}
 use Rattle.chip_analysis.specs.declared.chip.Work.{Work}
 use Rattle.chip_numbers.specs.declared.space.Space.{Space}
 use Rattle.report_bytes.specs.Report.{IsReportOf, are_closed, last_works, report_of}
-use Rattle.round_core.specs.Kept.{live_pairs}
-use Rattle.round_core.specs.Machine.{replay, IsClosed}
-use Rattle.round_core.specs.declared.event.Event.{Event}
+use Rattle.book_rules.specs.Kept.{live_pairs}
+use Rattle.book_rules.specs.Machine.{replay, IsClosed}
+use Rattle.book_rules.specs.declared.event.Event.{Event}
 use Rattle.streams.specs.Stream.{IsAtEnd}
 use Rattle.vsa_top.specs.Answer.{IsAnalysis, IsDecided, IsDecidedOn, TellsNoFault}
 use Rattle.vsa_top.specs.Answer.IsDecided.{decided, reported}

@@ -10,7 +10,7 @@ use Rattle.image.specs.declared.tail.Tail.TheVariants.{Second}
 use Rattle.ihex_read.specs.ImageText.{Denotes}
 use Rattle.text_lines.specs.Lines as texts
 use Rattle.ihex_read.specs.Reading.{HasEnded}
-use Rattle.round_core.specs.declared.event.Event.{Event}
+use Rattle.book_rules.specs.declared.event.Event.{Event}
 use Rattle.vsa_top.specs.Answer.{Answers, IsCheckedOn, IsReply, IsVerdictOn}
 use Rattle.vsa_top.specs.Answer.Answers.{replied, unreplied}
 use Rattle.vsa_top.specs.Answer.IsReply.{of_image, of_bad, of_long}

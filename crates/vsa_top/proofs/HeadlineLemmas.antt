@@ -15,8 +15,8 @@ use Rattle.image.specs.Kept.{IsRamRange, IsReadUnder}
 use Rattle.text_lines.specs.Lines as texts
 use Rattle.ihex_read.specs.Reading.{HasEnded}
 use Rattle.streams.specs.Stream.{appended}
-use Rattle.round_core.specs.Machine.{replay, IsLegalJournal, IsFinished}
-use Rattle.round_core.specs.declared.event.Event.{Event}
+use Rattle.book_rules.specs.Machine.{replay, IsLegalJournal, IsFinished}
+use Rattle.book_rules.specs.declared.event.Event.{Event}
 use Rattle.analysis_limits.specs.declared.limits.Limits.{Limits}
 use Rattle.chip_analysis.specs.Analysis.{Analysis}
 use Rattle.chip_law.specs.Machine.{Machine}

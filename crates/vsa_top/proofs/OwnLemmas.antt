@@ -20,9 +20,9 @@ use Rattle.msp430_flow.specs.Texts.{msp430_texts}
 use Rattle.msp430_flow.specs.declared.setting.Setting.{Setting as Msp430Setting}
 use Rattle.report_bytes.specs.Report.{are_closed, last_works, report_of_journal}
 use Rattle.report_bytes.specs.Stacks.{HasOneStack}
-use Rattle.round_core.specs.Kept.{nodes_of}
-use Rattle.round_core.specs.Machine.{replay, IsClosed, IsFinished, IsLegalJournal}
-use Rattle.round_core.specs.declared.event.Event.{Event}
+use Rattle.book_rules.specs.Kept.{nodes_of}
+use Rattle.book_rules.specs.Machine.{replay, IsClosed, IsFinished, IsLegalJournal}
+use Rattle.book_rules.specs.declared.event.Event.{Event}
 use Rattle.state_text.specs.Texts.{StateTexts}
 use Rattle.streams.specs.Stream.{appended}
 use Rattle.vsa_top.specs.Answer.{Answers, IsChecked, IsCheckedOn, IsReply, IsReported, IsReportedOn, IsVerdictOn, status_of_verdict}

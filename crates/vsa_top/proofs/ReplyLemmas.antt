@@ -4,10 +4,10 @@ use Rattle.std.proofs.lemmas.List.Elements.{All-cons, All-nil}
 use Rattle.std.specs.Prelude.{◌&&◌, IfOk, Result, Ok, Err}
 use Rattle.chip_analysis.specs.Analysis.{Analysis}
 use Rattle.closed_book.specs.Bounded.{AreBounded}
-use Rattle.round_core.specs.declared.event.Event.{Event}
-use Rattle.round_core.specs.declared.event.Event.TheVariants.{Claim, Post, GiveBack}
-use Rattle.round_core.specs.Counts.{seat_of}
-use Rattle.round_core.specs.Machine.{replay, IsFinished, IsLegalJournal}
+use Rattle.book_rules.specs.declared.event.Event.{Event}
+use Rattle.book_rules.specs.declared.event.Event.TheVariants.{Claim, Post, GiveBack}
+use Rattle.book_rules.specs.Counts.{seat_of}
+use Rattle.book_rules.specs.Machine.{replay, IsFinished, IsLegalJournal}
 use Rattle.worker_rounds.specs.Turns.{AreTurns}
 use Rattle.image.specs.declared.chip_name.ChipName.{ChipName}
 use Rattle.report_bytes.specs.Deepest.{deepest_of}

@@ -4,7 +4,7 @@ use Rattle.std.specs.Prelude.{ℕ, IfNone, IfSome}
 use Rattle.std.specs.declared.string.String.{String}
 use Rattle.std.specs.declared.alloc.Global.{Global}
 use Rattle.image.specs.Kept.{IsRamRange}
-use Rattle.round_core.specs.declared.event.Event.{Event}
+use Rattle.book_rules.specs.declared.event.Event.{Event}
 use Rattle.vsa_words.specs.Words.{EndsInMemory, IsBounded, Reads, rules_of}
 use Rattle.vsa_words.specs.declared.reading.Reading.{Reading}
 use Rattle.vsa_top.specs.Answer.{Answers}

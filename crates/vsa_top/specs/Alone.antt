@@ -1,7 +1,7 @@
 -- What one worker answers is a function of the words and the input.
 use Rattle.std.specs.Prelude.{◌≡◌, ◌⊎◌, ℕ, Option, List}
 use Rattle.streams.specs.Stream.{appended}
-use Rattle.round_core.specs.declared.event.Event.{Event}
+use Rattle.book_rules.specs.declared.event.Event.{Event}
 use Rattle.image.specs.declared.chip_name.ChipName.{ChipName}
 use Rattle.vsa_top.specs.declared.outcome.Status.{Status}
 use Rattle.vsa_top.specs.declared.outcome.Status.TheVariants as status

@@ -7,9 +7,9 @@ use Rattle.streams.specs.Stream.{appended, AppendsPrefix}
 use Rattle.analysis_limits.specs.declared.limits.Limits.{Limits}
 use Rattle.chip_analysis.specs.Analysis.{Analysis}
 use Rattle.closed_book.specs.Bounded.{AreBounded}
-use Rattle.round_core.specs.declared.event.Event.{Event}
-use Rattle.round_core.specs.Counts.{seat_of}
-use Rattle.round_core.specs.Machine.{replay, IsLegalJournal, IsFinished}
+use Rattle.book_rules.specs.declared.event.Event.{Event}
+use Rattle.book_rules.specs.Counts.{seat_of}
+use Rattle.book_rules.specs.Machine.{replay, IsLegalJournal, IsFinished}
 use Rattle.worker_rounds.specs.Turns.{AreTurns}
 use Rattle.run_trace.specs.declared.trace.End.{End}
 use Rattle.run_trace.specs.declared.trace.End.TheVariants as ended
@@ -23,7 +23,7 @@ use Rattle.msp430_flow.specs.Chip.{msp430_analysis}
 use Rattle.disassembly.specs.Listing.{IsDisassembly}
 use Rattle.cert_text.specs.Writing.{IsCert}
 use Rattle.cert_verdict.specs.Verdict.{IsVerdict}
-use Rattle.round_core.specs.Kept.{nodes_of}
+use Rattle.book_rules.specs.Kept.{nodes_of}
 use Rattle.state_text.specs.Texts.{StateTexts}
 use Rattle.mcs51_flow.specs.Texts.{mcs51_texts}
 use Rattle.msp430_flow.specs.Texts.{msp430_texts}

@@ -16,7 +16,7 @@ use Rattle.chip_numbers.specs.declared.space.Space.TheVariants.{Mem, Ram, Sfr, X
 use Rattle.mcs51_flow.specs.Machine.{mcs51_machine}
 use Rattle.msp430_flow.specs.Machine.{msp430_machine}
 use Rattle.report_bytes.specs.Report.{last_works}
-use Rattle.round_core.specs.declared.event.Event.{Event}
+use Rattle.book_rules.specs.declared.event.Event.{Event}
 use Rattle.vsa_top.specs.Scripts.{second_limit}
 use Rattle.vsa_top.specs.Settings.{device_of}
 use Rattle.vsa_top.specs.declared.outcome.Status.{Status}

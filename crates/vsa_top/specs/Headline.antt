@@ -5,7 +5,7 @@ use Rattle.image.specs.declared.tail.Tail.TheVariants.{Blank, Second}
 use Rattle.ihex_read.specs.ImageText.{Denotes}
 use Rattle.text_lines.specs.Lines as texts
 use Rattle.streams.specs.Stream.{appended}
-use Rattle.round_core.specs.declared.event.Event.{Event}
+use Rattle.book_rules.specs.declared.event.Event.{Event}
 use Rattle.report_text.specs.Promise.{CoversEveryRun, ShowsOpenSites}
 use Rattle.mcs51_flow.specs.Chip.{mcs51_analysis}
 use Rattle.mcs51_flow.specs.Machine.{mcs51_machine}

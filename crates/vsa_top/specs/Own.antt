@@ -4,7 +4,7 @@ use Rattle.analysis_limits.specs.declared.limits.Limits.{Limits}
 use Rattle.image.specs.declared.tail.Tail.TheVariants.{Blank}
 use Rattle.ihex_read.specs.ImageText.{Denotes}
 use Rattle.text_lines.specs.Lines as texts
-use Rattle.round_core.specs.declared.event.Event.{Event}
+use Rattle.book_rules.specs.declared.event.Event.{Event}
 use Rattle.streams.specs.Stream.{appended}
 use Rattle.vsa_top.specs.Answer.{IsReportedOn}
 use Rattle.vsa_top.specs.Headline.{CoversRunsOf}

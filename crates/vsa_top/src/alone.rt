@@ -1,7 +1,7 @@
 //! That one worker's answers are functions of the words and the input.
 
 ghost use Rattle.std.specs.Prelude.{◌≡◌, ℕ, Option, Some, List};
-ghost use Rattle.round_core.specs.declared.event.Event.{Event as AnEvent};
+ghost use Rattle.book_rules.specs.declared.event.Event.{Event as AnEvent};
 ghost use Rattle.vsa_top.specs.Alone.{IsOneReply, TellsAnalysis, WorksAlone};
 ghost use Rattle.vsa_top.specs.Answer.{Answers};
 ghost use Rattle.vsa_top.specs.Input.{input_of};

@@ -8,8 +8,8 @@ ghost use Rattle.assert_check.specs.declared.assertion.Assertion.{Assertion as A
 ghost use Rattle.item_lines.specs.Line.{item_line_of};
 ghost use Rattle.image.specs.Kept.{IsRamRange, IsReadUnder};
 ghost use Rattle.report_bytes.specs.Report.{are_closed, last_works};
-ghost use Rattle.round_core.specs.Machine.{replay, IsFinished, IsLegalJournal};
-ghost use Rattle.round_core.specs.declared.event.Event.{Event as AnEvent};
+ghost use Rattle.book_rules.specs.Machine.{replay, IsFinished, IsLegalJournal};
+ghost use Rattle.book_rules.specs.declared.event.Event.{Event as AnEvent};
 ghost use Rattle.streams.specs.Stream.{HasRisen};
 ghost use Rattle.vsa_top.specs.Answer.{IsAnalysis, IsAsserted, IsDecided, IsDecidedOn, TellsNoFault};
 ghost use Rattle.vsa_top.specs.Asserted.{AreAsserted, LacksAssertions, broken_in, broken_text, fails_line, spaces_of, status_of_broken};

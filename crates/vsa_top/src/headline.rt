@@ -3,7 +3,7 @@
 ghost use Rattle.std.specs.Prelude.{◌≡◌, ◌≤◌, ℕ, true, Option, Some, List, ◌⊎◌};
 ghost use Rattle.cert_verdict.specs.Verdict.{IsVerdict};
 ghost use Rattle.report_text.specs.Promise.{CoversEveryRun};
-ghost use Rattle.round_core.specs.declared.event.Event.{Event as AnEvent};
+ghost use Rattle.book_rules.specs.declared.event.Event.{Event as AnEvent};
 ghost use Rattle.vsa_top.specs.declared.outcome.Status.TheVariants.{Done, Memory, Open, ReadFault, WriteFault};
 ghost use Rattle.vsa_top.specs.declared.outcome.Status.{Status as AStatus};
 ghost use Rattle.vsa_top.specs.Answer.{Analyses, Answers, Ends, IsVerdictOn};

@@ -3,7 +3,7 @@
 ghost use Rattle.std.specs.Prelude.{◌≡◌, ◌≤◌, ℕ, Option, Some, List, length, true, ◌⊎◌};
 ghost use Rattle.image.specs.Kept.{IsRamRange};
 ghost use Rattle.image.specs.declared.tail.Tail.TheVariants.{Second};
-ghost use Rattle.round_core.specs.declared.event.Event.{Event as AnEvent};
+ghost use Rattle.book_rules.specs.declared.event.Event.{Event as AnEvent};
 ghost use Rattle.vsa_top.specs.Answer.{Answers};
 ghost use Rattle.vsa_top.specs.Input.{Gives};
 ghost use Rattle.vsa_top.specs.Own.{IsOwn, TellsReport, WritesOwn};

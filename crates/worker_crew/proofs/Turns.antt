@@ -12,9 +12,9 @@ use Rattle.fact_table.specs.Seats.{AreOutTo, Ends, Exchanges}
 use Rattle.fact_table.specs.declared.exchange.Exchanged.{Exchanged}
 use Rattle.fact_table.specs.declared.exchange.Last.{Last}
 use Rattle.fact_table.specs.declared.exchange.Last.TheVariants.{Full, Shared, Idle, Finished, Memory}
-use Rattle.round_core.specs.Machine.{BookState, Out, replay}
-use Rattle.round_core.specs.declared.event.Event.{Event}
-use Rattle.round_core.specs.declared.event.Event.TheVariants.{Claim, Post, GiveBack}
+use Rattle.book_rules.specs.Machine.{BookState, Out, replay}
+use Rattle.book_rules.specs.declared.event.Event.{Event}
+use Rattle.book_rules.specs.declared.event.Event.TheVariants.{Claim, Post, GiveBack}
 use Rattle.round_core.specs.declared.ticket.Done.{Done}
 use Rattle.turn_table.specs.Events.{StartsWith, events_under}
 use Rattle.turn_table.specs.Shown.{ShownSeat, new_seat, seat_split, seats_joined, seats_known}

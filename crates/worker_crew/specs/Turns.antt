@@ -4,9 +4,9 @@ use Rattle.atomic_table.specs.Seated.{TableId}
 use Rattle.call_context.specs.declared.node.Unit.{Unit as WorkUnit}
 use Rattle.chip_analysis.specs.Analysis.{Analysis}
 use Rattle.fact_table.specs.Seats.{AreOutTo}
-use Rattle.round_core.specs.Machine.{Out}
-use Rattle.round_core.specs.declared.event.Event.{Event}
-use Rattle.round_core.specs.declared.event.Event.TheVariants.{Claim, Post, GiveBack}
+use Rattle.book_rules.specs.Machine.{Out}
+use Rattle.book_rules.specs.declared.event.Event.{Event}
+use Rattle.book_rules.specs.declared.event.Event.TheVariants.{Claim, Post, GiveBack}
 use Rattle.turn_table.specs.Events.{StartsWith}
 use Rattle.turn_table.specs.Shown.{ShownSeat, seats_known}
 

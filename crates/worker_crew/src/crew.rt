@@ -1,8 +1,8 @@
 //! The workers' threads.
 
 ghost use Rattle.std.specs.Prelude.{◌≡◌, ◌+◌, ◌<◌, ◌≤◌, ℕ, false, Some, IfOk};
-ghost use Rattle.round_core.specs.Counts.{seat_of};
-ghost use Rattle.round_core.specs.Machine.{replay, IsFinished, IsLegalJournal};
+ghost use Rattle.book_rules.specs.Counts.{seat_of};
+ghost use Rattle.book_rules.specs.Machine.{replay, IsFinished, IsLegalJournal};
 ghost use Rattle.std.specs.Thread.{IsSend, IsSync};
 ghost use Rattle.turn_table.specs.Events.{AllBelow, events_of};
 ghost use Rattle.fact_table.specs.Named.{table_of};

@@ -2,9 +2,9 @@
 use Rattle.std.proofs.Common.{◌≡◌, List, [], ◌∷◌, ◌++◌, append_assoc, refl, sym, subst}
 use Rattle.call_context.specs.declared.node.Unit.{Unit as WorkUnit}
 use Rattle.chip_analysis.specs.Analysis.{Analysis}
-use Rattle.round_core.specs.declared.event.Event.{Event}
-use Rattle.round_core.specs.declared.event.Event.TheVariants.{Claim, Post, GiveBack}
-use Rattle.round_core.specs.Machine.{replay, IsFirst}
+use Rattle.book_rules.specs.declared.event.Event.{Event}
+use Rattle.book_rules.specs.declared.event.Event.TheVariants.{Claim, Post, GiveBack}
+use Rattle.book_rules.specs.Machine.{replay, IsFirst}
 use Rattle.worker_rounds.specs.Turns.{AreTurns}
 
 AreTurns-push : (journal : List Event) (unit : WorkUnit) → AreTurns journal → AreTurns (journal ++ Claim 0 unit ∷ Post 0 unit ∷ [])

@@ -1,9 +1,9 @@
 -- The journal of one worker alone.
 use Rattle.std.specs.Prelude.{◌≡◌, List, [], ◌∷◌}
 use Rattle.chip_analysis.specs.Analysis.{Analysis}
-use Rattle.round_core.specs.Machine.{IsFinished, IsLegalJournal, replay}
-use Rattle.round_core.specs.declared.event.Event.{Event}
-use Rattle.round_core.specs.declared.event.Event.TheVariants.{Claim, Post, GiveBack}
+use Rattle.book_rules.specs.Machine.{IsFinished, IsLegalJournal, replay}
+use Rattle.book_rules.specs.declared.event.Event.{Event}
+use Rattle.book_rules.specs.declared.event.Event.TheVariants.{Claim, Post, GiveBack}
 
 -- each claim of seat 0 is followed at once by the post of its unit, and there is no other event
 abbrev pub AreTurns : List Event → Type 0

@@ -1,16 +1,17 @@
 //! The analysis on one thread.
 
 ghost use Rattle.std.specs.Prelude.{◌≡◌, [], true, false, IfOk};
-ghost use Rattle.round_core.specs.Kept.{with_event};
-ghost use Rattle.round_core.specs.Machine.{replay, IsFirst, IsFinished, IsLegalJournal};
-ghost use Rattle.round_core.specs.declared.event.Event.TheVariants.{Claim, Post};
+ghost use Rattle.book_rules.specs.Kept.{with_event};
+ghost use Rattle.book_rules.specs.Machine.{replay, IsFirst, IsFinished, IsLegalJournal};
+ghost use Rattle.book_rules.specs.declared.event.Event.TheVariants.{Claim, Post};
 ghost use Rattle.worker_rounds.specs.Turns.{AreTurns};
 ghost use Rattle.call_context.specs.declared.node.Unit.{Unit as AUnit};
 
 use crate::gate::{Gate, NoGate};
+use book_rules::turns_bring_home;
 use chip_analysis::Chip;
 use no_memory::Memory;
-use round_core::{Book, Claimed, Done, turns_bring_home};
+use round_core::{Book, Claimed, Done};
 use std::alloc::Global;
 
 /// Tells of the work that was posted last, and how large the book is by now.

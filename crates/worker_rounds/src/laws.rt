@@ -1,11 +1,11 @@
 //! What one worker's journals have in common.
 
 ghost use Rattle.std.specs.Prelude.{◌≡◌, List};
-ghost use Rattle.round_core.specs.declared.event.Event.{Event as AnEvent};
+ghost use Rattle.book_rules.specs.declared.event.Event.{Event as AnEvent};
 ghost use Rattle.worker_rounds.specs.Turns.{FinishesAlone};
 
+use book_rules::first_is_one;
 use chip_analysis::Chip;
-use round_core::first_is_one;
 
 /// An analysis has one journal of turns that finishes its book, so whatever one worker's journal leads to is a function of
 /// the program and its options.

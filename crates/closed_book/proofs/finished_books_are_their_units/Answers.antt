@@ -1,4 +1,4 @@
-use Rattle.round_core.specs.Machine.{replay}
+use Rattle.book_rules.specs.Machine.{replay}
 use Rattle.closed_book.proofs.finished_books_are_their_units.Goals as goal
 
 pub returns-clause-pairs : goal.returns-clause-pairs

@@ -1,4 +1,4 @@
-use Rattle.round_core.specs.Machine.{replay}
+use Rattle.book_rules.specs.Machine.{replay}
 use Rattle.closed_book.proofs.Books.{is_broken}
 use Rattle.closed_book.proofs.opens_break_limits.Goals as goal
 

@@ -1,7 +1,7 @@
 use Rattle.closing_law.proofs.Books.{is_closed}
 use Rattle.closing_law.proofs.closed_books_cover_runs.Goals as goal
-use Rattle.round_core.specs.Kept.{live_pairs, nodes_of}
-use Rattle.round_core.specs.Machine.{replay}
+use Rattle.book_rules.specs.Kept.{live_pairs, nodes_of}
+use Rattle.book_rules.specs.Machine.{replay}
 
 pub returns : goal.returns
 returns g c = λ base journal program legal finished none_open.

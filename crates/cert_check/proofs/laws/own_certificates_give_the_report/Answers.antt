@@ -1,5 +1,5 @@
-use Rattle.round_core.specs.Kept.{live_pairs, nodes_of}
-use Rattle.round_core.specs.Machine.{replay}
+use Rattle.book_rules.specs.Kept.{live_pairs, nodes_of}
+use Rattle.book_rules.specs.Machine.{replay}
 use Rattle.cert_check.specs.Refusal.{works_in}
 use Rattle.cert_check.proofs.AcceptedLemmas.{nodes_of_table, nodes_reordered}
 use Rattle.cert_check.proofs.laws.own_certificates_give_the_report.Goals as goal

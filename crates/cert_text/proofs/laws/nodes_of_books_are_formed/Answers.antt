@@ -1,4 +1,4 @@
-use Rattle.round_core.specs.Machine.{replay}
+use Rattle.book_rules.specs.Machine.{replay}
 use Rattle.cert_text.proofs.BookLemmas.{book_nodes}
 use Rattle.cert_text.proofs.laws.nodes_of_books_are_formed.Goals as goal
 

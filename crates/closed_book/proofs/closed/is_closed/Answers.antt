@@ -1,6 +1,6 @@
 use Rattle.std.proofs.Common.{◌∙◌, sym}
-use Rattle.round_core.specs.Kept.{is_live, works_of}
-use Rattle.round_core.specs.Machine.{replay}
+use Rattle.book_rules.specs.Kept.{is_live, works_of}
+use Rattle.book_rules.specs.Machine.{replay}
 use Rattle.closed_book.proofs.ClosedBooks.{has_none, none_has, shut_open, open_shut}
 use Rattle.closed_book.proofs.closed.is_closed.Goals as goal
 

@@ -1,6 +1,6 @@
 use Rattle.std.proofs.Common.{sym, subst}
-use Rattle.round_core.specs.Kept.{nodes_of}
-use Rattle.round_core.specs.Machine.{replay}
+use Rattle.book_rules.specs.Kept.{nodes_of}
+use Rattle.book_rules.specs.Machine.{replay}
 use Rattle.closed_book.specs.ClosedBook.{IsClosedBook}
 use Rattle.closed_book.proofs.closed.read_closed_with_journal.Goals as goal
 

@@ -1,8 +1,8 @@
 use Rattle.std.proofs.Common.{◌≡◌, ◌∷◌, ◌∙◌, IfErr, OnErr, OnOk, refl, sym, ap, subst}
 use Rattle.fact_table.specs.Exchange.{AreAhead, Posts}
 use Rattle.round_core.specs.Ahead.{IsAhead}
-use Rattle.round_core.specs.Kept.{with_event}
-use Rattle.round_core.specs.declared.event.Event.TheVariants.{Post}
+use Rattle.book_rules.specs.Kept.{with_event}
+use Rattle.book_rules.specs.declared.event.Event.TheVariants.{Post}
 use Rattle.fact_table.proofs.AheadLemmas.{ahead_taken}
 use Rattle.fact_table.proofs.ExchangeLemmas.{posts_more, posts_none, works_rest}
 use Rattle.fact_table.proofs.exchange.post_all.Goals as goal

@@ -1,4 +1,4 @@
-use Rattle.round_core.specs.Machine.{replay}
+use Rattle.book_rules.specs.Machine.{replay}
 use Rattle.report_bytes.proofs.ClosingLemmas.{told}
 use Rattle.report_bytes.proofs.closing.closed_books_are_told.Goals as goal
 

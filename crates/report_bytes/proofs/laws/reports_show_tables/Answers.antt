@@ -1,4 +1,4 @@
-use Rattle.round_core.specs.Machine.{replay}
+use Rattle.book_rules.specs.Machine.{replay}
 use Rattle.report_bytes.proofs.ShowsLemmas.{book_shows}
 use Rattle.report_bytes.proofs.laws.reports_show_tables.Goals as goal
 

@@ -1,7 +1,7 @@
 use Rattle.std.proofs.Common.{◌≡◌, [], ◌&&◌, ◌+◌, None, drop, sym, ◌∙◌, ap, subst}
 use Rattle.std.specs.List.{flat_map}
-use Rattle.round_core.specs.Kept.{is_live, live_works}
-use Rattle.round_core.specs.Machine.{replay}
+use Rattle.book_rules.specs.Kept.{is_live, live_works}
+use Rattle.book_rules.specs.Machine.{replay}
 use Rattle.report_bytes.specs.Deepest.{deepest_of}
 use Rattle.report_bytes.specs.Report.{with_lines, lines_of, are_closed}
 use Rattle.report_bytes.proofs.ReportLemmas.{first_left, passing, passing-cons, lines_more, closed_more, deepest_more}

@@ -1,8 +1,8 @@
 use Rattle.std.proofs.Common.{◌≡◌, ◌&&◌, [], None, drop}
 use Rattle.std.specs.Prelude.{map, filter}
 use Rattle.std.specs.List.{flat_map}
-use Rattle.round_core.specs.Kept.{is_live, live_works}
-use Rattle.round_core.specs.Machine.{replay}
+use Rattle.book_rules.specs.Kept.{is_live, live_works}
+use Rattle.book_rules.specs.Machine.{replay}
 use Rattle.report_bytes.specs.Deepest.{deepest_of}
 use Rattle.report_bytes.specs.Report.{with_lines, lines_of, are_closed}
 use Rattle.report_bytes.proofs.report.tell_all.Given as goal

@@ -1,7 +1,7 @@
 use Rattle.std.proofs.Common.{◌≡◌, ◌∙◌, ap, sym, refl, true}
-use Rattle.round_core.specs.Machine.{held_at}
-use Rattle.round_core.specs.Same.{same_node}
-use Rattle.round_core.proofs.SameLaws.{same_node-eq}
+use Rattle.book_rules.specs.Machine.{held_at}
+use Rattle.book_rules.specs.Same.{same_node}
+use Rattle.book_rules.specs.SameTests.{same_node-eq}
 use Rattle.round_core.proofs.ahead.looked_at.Goals as goal
 
 pub returns : goal.returns

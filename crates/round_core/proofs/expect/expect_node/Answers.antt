@@ -3,7 +3,7 @@ use Rattle.call_context.specs.declared.node.Frame.{Frame}
 use Rattle.round_core.specs.Agenda.{places_in}
 use Rattle.round_core.specs.Expected.{ExpectsNode}
 use Rattle.round_core.specs.Returns.{HasReturnsTo}
-use Rattle.round_core.specs.Machine.{waits_for}
+use Rattle.book_rules.specs.Machine.{waits_for}
 use Rattle.round_core.proofs.Cases.{on_ok_both}
 use Rattle.round_core.proofs.expect.expect_node.Goals as goal
 

@@ -4,7 +4,7 @@ use Rattle.call_context.specs.declared.node.Unit.TheVariants as unit
 use Rattle.round_core.specs.declared.place.Place.TheVariants.{One}
 use Rattle.round_core.specs.Agenda.{IsIn, places_in}
 use Rattle.round_core.specs.Expected.{ExpectsUnit}
-use Rattle.round_core.specs.Machine.{Held, HasRisen, versions_of}
+use Rattle.book_rules.specs.Machine.{Held, HasRisen, versions_of}
 use Rattle.round_core.specs.Returns.{HasReturnsTo}
 use Rattle.round_core.proofs.Cases.{on_ok_both, on_ok_map}
 use Rattle.round_core.proofs.expect.expect_unit.Goals as goal

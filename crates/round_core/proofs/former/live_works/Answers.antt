@@ -2,7 +2,7 @@ use Rattle.std.proofs.Common.{◌≤◌, ◌∙◌, ap, map, length, not, rules,
 use Rattle.std.specs.Prelude.{filter}
 use Rattle.std.proofs.lemmas.Fn.{filter_same}
 use Rattle.round_core.specs.Former.{is_no_unit}
-use Rattle.round_core.specs.Kept.{is_live}
+use Rattle.book_rules.specs.Kept.{is_live}
 use Rattle.round_core.specs.Rows.{value_part}
 use Rattle.round_core.specs.Works.{done_of}
 use Rattle.round_core.proofs.FormerLemmas.{keys-rows, left-live, marked-length}

@@ -1,9 +1,9 @@
 use Rattle.std.proofs.Common.{◌≡◌, List, map, length}
 use Rattle.call_context.specs.declared.node.Unit.{Unit as WorkUnit}
 use Rattle.chip_analysis.specs.declared.chip.Work.{Work}
-use Rattle.round_core.specs.declared.versions.Versions.{Versions}
+use Rattle.book_rules.specs.declared.versions.Versions.{Versions}
 use Rattle.round_core.specs.Former.{marked}
-use Rattle.round_core.specs.Kept.{is_live}
+use Rattle.book_rules.specs.Kept.{is_live}
 use Rattle.round_core.specs.Rows.{mark_part, value_part}
 use Rattle.round_core.specs.Works.{done_of}
 use Rattle.round_core.proofs.former.live_works.Given as goal

@@ -1,6 +1,6 @@
 use Rattle.std.proofs.Common.{◌∙◌, ap, map, sym}
 use Rattle.std.specs.Map.{values_of}
-use Rattle.round_core.specs.Kept.{is_live}
+use Rattle.book_rules.specs.Kept.{is_live}
 use Rattle.round_core.specs.Rows.{value_part}
 use Rattle.round_core.specs.Works.{done_of}
 use Rattle.round_core.proofs.FormerLemmas.{marked-values, same_at, marks-dead, marks-live, values-rows}

@@ -4,9 +4,9 @@ use Rattle.std.specs.Cmp.Lexicographic.{pointwise}
 use Rattle.std.proofs.Math.Dec.{eqb}
 use Rattle.std.proofs.lemmas.Bool.Decides.{Decides-eqb}
 use Rattle.std.proofs.lemmas.Slice.Eq.{slice_eq-Decides}
-use Rattle.round_core.specs.Same.{same_numbers}
+use Rattle.book_rules.specs.Same.{same_numbers}
 use Rattle.round_core.proofs.DerivedTests.{agree}
-use Rattle.round_core.proofs.SameLaws.{same_numbers-eq, same_numbers-refl}
+use Rattle.book_rules.specs.SameTests.{same_numbers-eq, same_numbers-refl}
 use Rattle.round_core.proofs.key.same_calls.Goals as goal
 
 pub returns : goal.returns

@@ -1,12 +1,12 @@
 use Rattle.std.proofs.Common.{◌∙◌, ◌+◌, ◌<◌, ap, sym, subst, arith, length, take, drop, ◌++◌, ◌∷◌, []}
 use Rattle.std.proofs.lemmas.List.{take_more}
 use Rattle.round_core.specs.Ahead.{AreBefore}
-use Rattle.round_core.specs.Machine.{raised, all_raised}
+use Rattle.book_rules.specs.Machine.{raised, all_raised}
 use Rattle.round_core.specs.Raise.{held_rows, with_all}
-use Rattle.round_core.specs.Stays.{AllStay}
+use Rattle.book_rules.specs.Stays.{AllStay}
 use Rattle.round_core.proofs.AheadLemmas.{next-before, next-still}
 use Rattle.round_core.proofs.Cases.{drop_next}
-use Rattle.round_core.proofs.HeldLaws.{AllStay-all_raised}
+use Rattle.book_rules.specs.Staying.{AllStay-all_raised}
 use Rattle.round_core.proofs.RaiseLemmas.{all_raised-append}
 use Rattle.round_core.proofs.raise.all_raised.Goals as goal
 

@@ -1,6 +1,6 @@
 use Rattle.std.proofs.Common.{◌≡◌, take, drop}
 use Rattle.round_core.specs.Ahead.{AreBefore}
-use Rattle.round_core.specs.Machine.{all_raised}
+use Rattle.book_rules.specs.Machine.{all_raised}
 use Rattle.round_core.specs.Raise.{held_rows, with_all, RisesOver}
 use Rattle.round_core.proofs.raise.all_raised.Given as goal
 

@@ -1,5 +1,5 @@
 use Rattle.std.proofs.Common.{◌≡◌, ◌∙◌, ap, sym, subst, Some, None, MatchOption, slice_get}
-use Rattle.round_core.specs.Machine.{place_of, held_at}
+use Rattle.book_rules.specs.Machine.{place_of, held_at}
 use Rattle.round_core.specs.Raise.{with_all, held_rows}
 use Rattle.round_core.proofs.Cases.{get-index}
 use Rattle.round_core.proofs.ListLemmas.{get-in}

@@ -1,6 +1,6 @@
 use Rattle.std.proofs.Common.{◌≡◌, ◌∙◌, ◌+◌, ap, sym, true, false}
 use Rattle.std.proofs.Math.Path.{ap₂}
-use Rattle.round_core.specs.Machine.{with_held, risen_state}
+use Rattle.book_rules.specs.Machine.{with_held, risen_state}
 use Rattle.round_core.specs.Raise.{held_rows, with_all}
 use Rattle.round_core.proofs.AheadLemmas.{still-row}
 use Rattle.round_core.proofs.Cases.{on_ok_map, match_some, match_none, if_false}

@@ -1,7 +1,7 @@
 use Rattle.std.proofs.Common.{◌≡◌, ◌∙◌, ◌≤◌, ◌+◌, suc, ap, sym, subst, arith, length, take, take_all, slice_index_or, None, true, false}
-use Rattle.round_core.specs.Machine.{place_of}
+use Rattle.book_rules.specs.Machine.{place_of}
 use Rattle.round_core.specs.Raise.{held_rows}
-use Rattle.round_core.specs.Same.{same_node}
+use Rattle.book_rules.specs.Same.{same_node}
 use Rattle.round_core.specs.declared.raised.Risen.{Risen}
 use Rattle.round_core.proofs.Cases.{get-index}
 use Rattle.round_core.proofs.RaisedLemmas.{place-here, no-place-yet}

@@ -1,5 +1,5 @@
 use Rattle.std.proofs.Common.{◌≡◌, take, None}
-use Rattle.round_core.specs.Machine.{place_of}
+use Rattle.book_rules.specs.Machine.{place_of}
 use Rattle.round_core.specs.Raise.{held_rows}
 use Rattle.round_core.proofs.raised.index_of.Given as goal
 

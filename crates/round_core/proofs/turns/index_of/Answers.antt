@@ -1,5 +1,5 @@
 use Rattle.std.proofs.Common.{◌≡◌, ◌∙◌, ◌≤◌, ◌+◌, suc, ap, sym, subst, arith, length, take, take_all, slice_index_or, None, true, false}
-use Rattle.round_core.specs.Same.{same_unit}
+use Rattle.book_rules.specs.Same.{same_unit}
 use Rattle.round_core.specs.Turns.{index_out}
 use Rattle.round_core.proofs.Cases.{get-index}
 use Rattle.round_core.proofs.TurnsLemmas.{index-here, no-index-yet}

@@ -7,8 +7,8 @@ use Rattle.closed_book.specs.ClosedBook.{Closed}
 use Rattle.vsa_top.specs.Answer.{IsAnalysis, IsDecided}
 use Rattle.vsa_top.specs.Asserted.{broken_text, status_of_broken}
 use Rattle.report_bytes.specs.Report.{IsReportOf}
-use Rattle.round_core.specs.Kept.{Kept}
-use Rattle.round_core.specs.Machine.{replay}
+use Rattle.book_rules.specs.Kept.{Kept}
+use Rattle.book_rules.specs.Machine.{replay}
 use Rattle.vsa_top.specs.declared.outcome.Status.TheVariants as status
 use Rattle.vsa_top.specs.declared.reply.Reply.{Reply}
 use Rattle.vsa_top.proofs.AssertedLemmas.{decided_by, reported_by}

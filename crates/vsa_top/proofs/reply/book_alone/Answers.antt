@@ -1,4 +1,4 @@
-use Rattle.round_core.specs.Machine.{replay, IsFinished, IsLegalJournal}
+use Rattle.book_rules.specs.Machine.{replay, IsFinished, IsLegalJournal}
 use Rattle.worker_rounds.specs.Turns.{AreTurns}
 use Rattle.vsa_top.specs.Answer.{IsAnalysis}
 use Rattle.vsa_top.proofs.ReplyLemmas.{alone_is, if_all}

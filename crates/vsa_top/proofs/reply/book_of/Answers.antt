@@ -1,6 +1,6 @@
 use Rattle.std.proofs.Common.{◌<◌, All}
-use Rattle.round_core.specs.Counts.{seat_of}
-use Rattle.round_core.specs.Machine.{replay, IsFinished, IsLegalJournal}
+use Rattle.book_rules.specs.Counts.{seat_of}
+use Rattle.book_rules.specs.Machine.{replay, IsFinished, IsLegalJournal}
 use Rattle.vsa_top.specs.Answer.{IsAnalysis}
 use Rattle.vsa_top.proofs.ReplyLemmas.{if_all}
 use Rattle.vsa_top.proofs.reply.book_of.Goals as goal

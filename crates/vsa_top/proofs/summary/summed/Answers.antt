@@ -1,5 +1,5 @@
 use Rattle.std.proofs.Common.{◌≡◌, subst, None}
-use Rattle.round_core.specs.Machine.{replay}
+use Rattle.book_rules.specs.Machine.{replay}
 use Rattle.report_bytes.specs.Deepest.{deepest_of}
 use Rattle.report_bytes.specs.Report.{IsReportOf, counts_of, items_of, last_works, reported_lines}
 use Rattle.vsa_top.specs.Answer.{IsAnalysis}

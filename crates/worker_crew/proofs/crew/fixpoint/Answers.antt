@@ -1,5 +1,5 @@
 use Rattle.std.proofs.Common.{refl, subst, sym, ◌∙◌, ap}
-use Rattle.round_core.specs.Counts.{seat_of}
+use Rattle.book_rules.specs.Counts.{seat_of}
 use Rattle.turn_table.specs.Events.{AllBelow}
 use Rattle.turn_table.specs.Shown.{seats_known}
 use Rattle.worker_crew.specs.Turns.{AreAnswered, EachAnswered}

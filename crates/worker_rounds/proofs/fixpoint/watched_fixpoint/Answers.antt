@@ -1,5 +1,5 @@
 use Rattle.std.proofs.Common.{◌≡◌, refl, sym, subst}
-use Rattle.round_core.specs.Kept.{Kept}
+use Rattle.book_rules.specs.Kept.{Kept}
 use Rattle.worker_rounds.proofs.TurnLemmas.{IsBetweenTurns, behind_turn}
 use Rattle.worker_rounds.proofs.fixpoint.watched_fixpoint.Goals as goal
 

@@ -4,8 +4,8 @@ use Rattle.std.proofs.lemmas.Option.{same_Some}
 use Rattle.fact_table.specs.Exchange.{AreAhead, ExchangesOn, IsWorked, tickets_of}
 use Rattle.fact_table.specs.declared.exchange.Last.TheVariants.{Memory}
 use Rattle.fact_table.proofs.TurnLemmas.{exchange_none, exchange_turn, grows_exchange, pass_adds, IsTurn, begun_by, outs_at_turn}
-use Rattle.round_core.specs.Counts.{seat_of}
-use Rattle.round_core.specs.declared.event.Event.{Event}
+use Rattle.book_rules.specs.Counts.{seat_of}
+use Rattle.book_rules.specs.declared.event.Event.{Event}
 use Rattle.turn_table.specs.Events.{AllOf}
 use Rattle.turn_table.specs.Shown.{turn_ended}
 use Rattle.fact_table.proofs.table.FactTable.exchange.Goals as goal

@@ -1,6 +1,6 @@
 use Rattle.std.proofs.Common.{refl, ap, sym, ◌∙◌}
 use Rattle.fact_table.proofs.TurnLemmas.{IsTurn, begun_by, ends, grows_by, out_at_turn, outs_behind, pass_adds}
-use Rattle.round_core.specs.declared.event.Event.TheVariants.{GiveBack}
+use Rattle.book_rules.specs.declared.event.Event.TheVariants.{GiveBack}
 use Rattle.fact_table.proofs.table.FactTable.give_back.Goals as goal
 
 pub give_back-requires-after_bounds : goal.give_back-requires-after_bounds

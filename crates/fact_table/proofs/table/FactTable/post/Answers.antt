@@ -1,6 +1,6 @@
 use Rattle.std.proofs.Common.{ap, sym, ◌∙◌}
 use Rattle.fact_table.proofs.TurnLemmas.{grows_post, looks, pass_adds, IsTurn, begun_by, ends, still_out, out_at_turn, on_ok, on_err}
-use Rattle.round_core.specs.declared.event.Event.TheVariants.{Post}
+use Rattle.book_rules.specs.declared.event.Event.TheVariants.{Post}
 use Rattle.fact_table.proofs.table.FactTable.post.Goals as goal
 
 pub post_one-posted-requires-clause-out : goal.post_one-posted-requires-clause-out

@@ -1,7 +1,7 @@
 use Rattle.std.proofs.Common.{sym, subst}
-use Rattle.round_core.specs.Claimable.{HasAtLeast}
-use Rattle.round_core.specs.Kept.{Kept}
-use Rattle.round_core.specs.Machine.{replay}
+use Rattle.book_rules.specs.Claimable.{HasAtLeast}
+use Rattle.book_rules.specs.Kept.{Kept}
+use Rattle.book_rules.specs.Machine.{replay}
 use Rattle.round_core.proofs.book.Book.candidates.Goals as goal
 
 pub returns : goal.returns

@@ -1,6 +1,6 @@
 use Rattle.std.proofs.Common.{◌∙◌, ap, sym}
-use Rattle.round_core.specs.declared.event.Event.TheVariants.{GiveBack}
-use Rattle.round_core.specs.Machine.{replay, out_at}
+use Rattle.book_rules.specs.declared.event.Event.TheVariants.{GiveBack}
+use Rattle.book_rules.specs.Machine.{replay, out_at}
 use Rattle.round_core.specs.Turns.{place_out}
 use Rattle.round_core.proofs.Cases.{is_some_of}
 use Rattle.round_core.proofs.ClaimEvent.{given_back, legal-out, legal-more}

@@ -2,15 +2,15 @@ use Rattle.std.proofs.Common.{◌∙◌, ap, map, sym, subst}
 use Rattle.std.specs.List.{AllByRecursion}
 use Rattle.std.specs.Prelude.{◌≡◌, false, filter}
 use Rattle.round_core.specs.Former.{is_no_unit}
-use Rattle.round_core.specs.Kept.{Kept, is_live, nodes_of, live_pairs}
-use Rattle.round_core.specs.Machine.{Done, replay}
-use Rattle.round_core.proofs.PlacedLaws.{done_units}
+use Rattle.book_rules.specs.Kept.{Kept, is_live, nodes_of, live_pairs}
+use Rattle.book_rules.specs.Machine.{Done, replay}
+use Rattle.round_core.proofs.FormerLemmas.{all_some_units}
 use Rattle.round_core.proofs.book.Book.into_live.Goals as goal
 
 pub into_live-nodes-requires : goal.into_live-nodes-requires
 into_live-nodes-requires g c =
     subst (λ ds. AllByRecursion (λ (d : Done _). is_no_unit d.unit ≡ false) ds) (sym c.self.invariant.shows.done)
-    (done_units _ _ c.self.invariant.legal)
+    (all_some_units _ (c.works_are_of_locations.ensures (g.C.Chip.base c.self.inside.chip.value) c.self.inside.parts.turns.journal c.self.invariant.legal))
 
 pub returns-clause-nodes : goal.returns-clause-nodes
 returns-clause-nodes g c =

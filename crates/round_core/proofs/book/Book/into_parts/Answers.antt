@@ -1,6 +1,6 @@
 use Rattle.std.proofs.Common.{◌∙◌, ap, map}
-use Rattle.round_core.specs.Kept.{Kept, nodes_of, works_of}
-use Rattle.round_core.specs.Machine.{replay}
+use Rattle.book_rules.specs.Kept.{Kept, nodes_of, works_of}
+use Rattle.book_rules.specs.Machine.{replay}
 use Rattle.round_core.proofs.book.Book.into_parts.Goals as goal
 
 pub returns-clause-nodes : goal.returns-clause-nodes

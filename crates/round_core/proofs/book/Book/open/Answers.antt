@@ -1,9 +1,9 @@
 use Rattle.std.proofs.Common.{◌∙◌, ap, sym, subst}
 use Rattle.std.proofs.Math.Path.{ap₂}
-use Rattle.round_core.specs.Machine.{replay, IsLegalJournal}
+use Rattle.book_rules.specs.Machine.{replay, IsLegalJournal}
 use Rattle.round_core.specs.Opening.{one_node}
 use Rattle.round_core.specs.Shown.{Shows, IsBook}
-use Rattle.round_core.proofs.ReplayLaws.{replay-none, IsLegalJournal-none}
+use Rattle.book_rules.specs.Replays.{replay-none, IsLegalJournal-none}
 use Rattle.round_core.proofs.book.Book.open.Goals as goal
 
 pub invariant_of-result : goal.invariant_of-result

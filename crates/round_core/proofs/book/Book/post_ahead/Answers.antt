@@ -1,16 +1,14 @@
 use Rattle.std.proofs.Common.{◌≡◌, ◌∙◌, ◌++◌, ◌∷◌, [], ap, sym, subst, refl}
 use Rattle.std.proofs.Math.Path.{ap₂}
 use Rattle.round_core.specs.Ahead.{AreLooked}
-use Rattle.round_core.specs.declared.event.Event.TheVariants.{Post}
-use Rattle.round_core.specs.Machine.{all_raised, replay, with_done}
+use Rattle.book_rules.specs.declared.event.Event.TheVariants.{Post}
+use Rattle.book_rules.specs.Machine.{all_raised, replay, with_done}
 use Rattle.round_core.specs.Raise.{held_rows, with_all, ArePlaced}
-use Rattle.round_core.specs.Stays.{AllStay}
+use Rattle.book_rules.specs.Stays.{AllStay}
 use Rattle.round_core.specs.Turns.{place_out, TakesHome}
 use Rattle.round_core.proofs.Cases.{is_some_of}
 use Rattle.round_core.proofs.ClaimEvent.{legal-out, book-stays, legal-more}
-use Rattle.round_core.proofs.EntryLaws.{out_at-all}
 use Rattle.round_core.proofs.PostEvent.{posted-shown}
-use Rattle.round_core.proofs.ReplayLaws.{IsSteady-replay, IsWellOut}
 use Rattle.round_core.proofs.book.Book.post_ahead.Goals as goal
 
 pub invariant_of-self : goal.invariant_of-self
@@ -68,9 +66,9 @@ prepare-requires-clause-ahead g c κs within =
     let t = c.args.done.ticket in
     let b = replay m p.turns.journal in
     let out = legal-out (λ base. g.C.Chip.analysis base) c.args.self.now (g.C.Chip.base c.self.inside.chip.value) p.turns.journal t c.self.view_is c.requires.out in
-    let well = out_at-all (IsWellOut b.nodes) b.out t.unit t (IsSteady-replay m p.turns.journal c.self.invariant.legal).out out in
+    let stay = c.outs_have_their_nodes.ensures (g.C.Chip.base c.self.inside.chip.value) p.turns.journal t.unit t c.self.invariant.legal out in
     record {
       then = t.nodes;
-      stay = subst (λ hs. AllStay t.nodes hs) (sym c.self.invariant.shows.nodes) (well.0).stay;
+      stay = subst (λ hs. AllStay t.nodes hs) (sym c.self.invariant.shows.nodes) stay;
       looked = subst (λ base. AreLooked (g.C.Chip.analysis base) t.nodes c.args.done.work.posts c.args.ahead) (sym c.requires.chip) c.requires.ahead;
     }

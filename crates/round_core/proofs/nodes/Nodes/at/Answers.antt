@@ -1,6 +1,6 @@
 use Rattle.std.proofs.Common.{◌≡◌, ◌≤◌, Some, subst, length, slice_get}
 use Rattle.std.specs.Prelude.{MatchOption, IfSome}
-use Rattle.round_core.specs.Machine.{Held, version_of}
+use Rattle.book_rules.specs.Machine.{Held, version_of}
 use Rattle.round_core.specs.Nodes.{held_of}
 use Rattle.round_core.specs.Rows.{Rows}
 use Rattle.round_core.proofs.DerivedTests.{node_eq, node_eq-same}

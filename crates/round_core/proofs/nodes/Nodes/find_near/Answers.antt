@@ -1,6 +1,6 @@
 use Rattle.std.proofs.Common.{◌≡◌, ◌∙◌, ap, None, Some, subst}
 use Rattle.std.specs.Prelude.{MatchOption}
-use Rattle.round_core.specs.Machine.{Held, held_at, place_of}
+use Rattle.book_rules.specs.Machine.{Held, held_at, place_of}
 use Rattle.round_core.specs.Rows.{Rows}
 use Rattle.round_core.proofs.DerivedTests.{node_eq, node_eq-same}
 use Rattle.round_core.proofs.NodesLemmas.{found-held, position-nodes}

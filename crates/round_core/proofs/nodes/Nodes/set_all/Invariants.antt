@@ -1,7 +1,7 @@
 use Rattle.std.proofs.Common.{◌≡◌, ◌≤◌, length, Some}
 use Rattle.std.specs.Vec.Iter.{into_iter_items}
 use Rattle.round_core.specs.Agenda.{IsIn}
-use Rattle.round_core.specs.Machine.{place_of}
+use Rattle.book_rules.specs.Machine.{place_of}
 use Rattle.round_core.specs.Raise.{held_rows, with_all}
 use Rattle.round_core.specs.declared.raised.Risen.{Risen}
 use Rattle.round_core.proofs.nodes.Nodes.set_all.Given as goal

@@ -1,5 +1,5 @@
 use Rattle.std.proofs.Common.{◌∙◌, ap, map, sym}
-use Rattle.round_core.specs.Machine.{place_of, with_held}
+use Rattle.book_rules.specs.Machine.{place_of, with_held}
 use Rattle.round_core.specs.Nodes.{held_of}
 use Rattle.round_core.proofs.DerivedTests.{node_eq, node_eq-same}
 use Rattle.round_core.proofs.NodesLemmas.{set-nodes, position-nodes}

@@ -1,6 +1,6 @@
 use Rattle.std.proofs.Common.{◌≡◌, ◌∙◌, ap, sym, subst, Some, None, slice_set}
 use Rattle.round_core.specs.Agenda.{IsIn}
-use Rattle.round_core.specs.Machine.{place_of, with_held}
+use Rattle.book_rules.specs.Machine.{place_of, with_held}
 use Rattle.round_core.specs.Raise.{held_of, held_rows}
 use Rattle.round_core.proofs.RaisedLemmas.{rows-replaced, rows-pushed, in-set, in-pushed, put-distinct, put-placed, put-next, put-there}
 use Rattle.round_core.proofs.raised.Raised.put.Goals as goal

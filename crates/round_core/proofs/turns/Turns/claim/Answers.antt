@@ -2,8 +2,8 @@ use Rattle.std.specs.Prelude.{vec_len}
 use Rattle.std.proofs.Common.{◌≡◌, ◌∙◌, ap, sym, subst, rules, arith, length, length-append, List, ◌++◌, ◌∷◌, [], None}
 use Rattle.std.proofs.Math.Path.{ap₂}
 use Rattle.round_core.specs.Turns.{place_out, Standing, StandOnce}
-use Rattle.round_core.specs.declared.event.Event.{Event}
-use Rattle.round_core.specs.declared.event.Event.TheVariants.{Claim}
+use Rattle.book_rules.specs.declared.event.Event.{Event}
+use Rattle.book_rules.specs.declared.event.Event.TheVariants.{Claim}
 use Rattle.round_core.specs.declared.place.Place.{Place}
 use Rattle.call_context.specs.declared.node.Unit.{Unit as WorkUnit}
 use Rattle.round_core.proofs.TurnsLemmas.{once-more}

@@ -1,6 +1,6 @@
 use Rattle.std.proofs.Common.{◌≡◌, None, Some, subst}
 use Rattle.std.specs.Prelude.{MatchOption}
-use Rattle.round_core.specs.Machine.{Done, done_at}
+use Rattle.book_rules.specs.Machine.{Done, done_at}
 use Rattle.round_core.specs.Rows.{Rows}
 use Rattle.round_core.proofs.DerivedTests.{unit_eq, unit_eq-same}
 use Rattle.round_core.proofs.WorksLemmas.{found-done}

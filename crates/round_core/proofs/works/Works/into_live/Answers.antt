@@ -2,7 +2,7 @@ use Rattle.std.proofs.Common.{◌∙◌, ap, map, sym, subst}
 use Rattle.std.specs.List.{AllByRecursion}
 use Rattle.std.specs.Prelude.{◌≡◌, false, filter}
 use Rattle.round_core.specs.Former.{is_no_unit}
-use Rattle.round_core.specs.Kept.{is_live}
+use Rattle.book_rules.specs.Kept.{is_live}
 use Rattle.round_core.specs.Works.{done_of}
 use Rattle.round_core.proofs.FormerLemmas.{units-rows}
 use Rattle.round_core.proofs.WorksLemmas.{values-works}

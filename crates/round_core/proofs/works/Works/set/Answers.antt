@@ -1,5 +1,5 @@
 use Rattle.std.proofs.Common.{◌∙◌, ap, map}
-use Rattle.round_core.specs.Machine.{with_done}
+use Rattle.book_rules.specs.Machine.{with_done}
 use Rattle.round_core.specs.Works.{done_of}
 use Rattle.round_core.proofs.DerivedTests.{unit_eq, unit_eq-same}
 use Rattle.round_core.proofs.WorksLemmas.{set-works}

@@ -1,0 +1,13 @@
+pub mod CountLaws
+pub mod EntryLaws
+pub mod FormLaws
+pub mod HeldLaws
+pub mod LiveLaws
+pub mod OutsLaws
+pub mod PlacedLaws
+pub mod ReplayLaws
+pub mod RiseLaws
+pub mod SoundLaws
+pub mod TableLaws
+pub mod WaitLaws
+pub mod WorkLaws

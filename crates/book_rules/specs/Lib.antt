@@ -1,0 +1,11 @@
+pub mod Claimable
+pub mod Counts
+pub mod Kept
+pub mod Machine
+pub mod Replays
+pub mod Same
+pub mod SameTests
+pub mod Sound
+pub mod Staying
+pub mod Stays
+pub mod Table
