@@ -1,5 +1,5 @@
 -- The entries of units that were done and of those that are out, and the inputs of units, under events.
-use Rattle.std.specs.Prelude.{◌≡◌, ℕ, ◌<◌, ◌≤◌, true, false, Option, None, Some, List, [], ◌∷◌, ◌++◌, Contains}
+use Rattle.std.specs.Prelude.{◌≡◌, ℕ, ◌<◌, true, false, Option, None, Some, List, [], ◌∷◌, ◌++◌, Contains}
 use Rattle.plain_lemmas.specs.Members.{in_none, in_cons, in_first, in_rest}
 use Rattle.std.specs.List.{AllByRecursion}
 use Rattle.std.specs.Option.{option_map, option_and_then}

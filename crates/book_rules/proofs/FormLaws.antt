@@ -1,6 +1,5 @@
 -- What the replay of a legal journal keeps for a chip that keeps a form of states: rises in bounds, and every state of the form.
 use Rattle.std.specs.Prelude.{◌≡◌, ◌≤◌, Option, None, Some, List}
-use Rattle.std.specs.List.{AllByRecursion}
 use Rattle.std.proofs.Common.{refl, sym, subst, arith}
 use Rattle.call_context.specs.declared.node.Node.{Node}
 use Rattle.call_context.specs.declared.node.Node.TheVariants.{At, Exit}

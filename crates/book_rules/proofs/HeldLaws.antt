@@ -1,5 +1,5 @@
 -- Nodes with their states under posts: each stays in its place, and its rises never fall.
-use Rattle.std.specs.Prelude.{◌≡◌, ℕ, ◌+◌, ◌≤◌, true, false, Option, None, Some, List, [], ◌∷◌, if◌then◌else◌, unwrap_or, ◌++◌, slice_set}
+use Rattle.std.specs.Prelude.{◌≡◌, ℕ, ◌+◌, ◌≤◌, true, false, Option, None, Some, List, [], ◌∷◌, unwrap_or, ◌++◌, slice_set}
 use Rattle.std.specs.List.{AllByRecursion, slice_get}
 use Rattle.std.specs.Option.{option_map}
 use Rattle.std.proofs.Common.{refl, sym, ◌∙◌, ap, subst, inl, inr, arith, add-one}
@@ -10,7 +10,7 @@ use Rattle.book_rules.specs.Same.{same_node}
 use Rattle.book_rules.specs.SameTests.{same_node-refl, same_node-eq}
 use Rattle.chip_analysis.specs.Analysis.{Analysis}
 use Rattle.book_rules.specs.Counts.{AreApart}
-use Rattle.book_rules.specs.Machine.{Held, held_at, place_of, version_of, risen_state, risen, raised, all_raised}
+use Rattle.book_rules.specs.Machine.{Held, held_at, place_of, version_of, risen, raised, all_raised}
 use Rattle.book_rules.specs.Stays.{AllStay}
 use Rattle.book_rules.specs.Staying.{held_at-here, held_at-there, held_at-later, Stays-risen}
 

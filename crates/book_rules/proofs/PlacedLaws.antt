@@ -1,5 +1,5 @@
 -- Each unit that is out or was done has its nodes in the book, and none was done twice.
-use Rattle.std.specs.Prelude.{◌≡◌, Bool, true, false, Option, None, Some, List, [], ◌∷◌, Contains, map, filter}
+use Rattle.std.specs.Prelude.{◌≡◌, Bool, true, false, None, Some, List, [], ◌∷◌, Contains, map, filter}
 use Rattle.std.specs.List.{AllByRecursion, IsDistinct}
 use Rattle.std.specs.Map.{keys_of}
 use Rattle.std.proofs.Common.{refl, sym, ◌∙◌, ap, subst, inl, inr}
@@ -12,7 +12,7 @@ use Rattle.book_rules.specs.Sound.{AreDoneOnce, IsPlaced, IsThere}
 use Rattle.book_rules.specs.declared.event.Event.{Event}
 use Rattle.book_rules.specs.declared.event.Event.TheVariants.{Claim, Post, GiveBack}
 use Rattle.book_rules.specs.Kept.{is_live, live_pairs}
-use Rattle.book_rules.specs.Machine.{BookState, Held, Done, Out, done_at, with_done, after, all_raised, posted, opening, replay, inputs_of, IsOfLocation, IsUnit, IsLegal, IsLegalJournal}
+use Rattle.book_rules.specs.Machine.{BookState, Held, Done, Out, done_at, with_done, after, all_raised, posted, opening, replay, IsOfLocation, IsUnit, IsLegal, IsLegalJournal}
 use Rattle.book_rules.specs.Stays.{AllStay}
 use Rattle.book_rules.specs.Same.{same_unit}
 use Rattle.std.proofs.lemmas.Bool.{cases_Bool, cond-true, cond-false}

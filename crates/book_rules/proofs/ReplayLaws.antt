@@ -16,7 +16,6 @@ use Rattle.book_rules.specs.declared.event.Event.TheVariants.{Claim, Post, GiveB
 use Rattle.book_rules.proofs.HeldLaws.{AreApart-all_raised, place_of-held, place_of-one, raised-here, raised-there, held_at-all, version_of-held}
 use Rattle.book_rules.specs.Staying.{AllStay-refl, AllStay-trans, AllStay-all_raised, Stays-risen}
 use Rattle.book_rules.proofs.EntryLaws.{AreOutOnce-push, AreOutOnce-without, AreUpTo-refl, AreUpTo-trans, versions-between, versions_of-later, inputs_of-found, inputs_of-later, inputs_of-same, out_at-all, all-map, all-push, all-with_done, all-without}
-use Rattle.book_rules.specs.Counts.{AreApart, AreOutOnce}
 use Rattle.book_rules.specs.Machine.{BookState, Held, Done, Out, out_at, held_at, place_of, version_of, versions_of, inputs_of, opening, posted, risen, raised, all_raised, with_out, without, after, replay_from, replay, IsUnit, IsFirst, IsBelow, ComesBefore, IsLegal, AllLegal, IsLegalJournal, IsFinished}
 use Rattle.book_rules.specs.Stays.{AllStay}
 use Rattle.book_rules.specs.Replays.{claim-leaves, post-leaves, give_back-leaves}

@@ -12,9 +12,9 @@ use Rattle.book_rules.proofs.RiseLaws.{AreUnder-all_raised, IsUnder-all_raised, 
 use Rattle.book_rules.specs.Staying.{held_at-here}
 use Rattle.book_rules.proofs.EntryLaws.{out_at-all, done_at-all, all-with_done, up_to-unless_risen}
 use Rattle.book_rules.proofs.ReplayLaws.{after-claim, after-post, after-give_back, inputs_of-unit}
-use Rattle.book_rules.proofs.FormLaws.{posts-formed, IsInForm-after, IsInForm-opening}
-use Rattle.book_rules.specs.Table.{IsUnder, IsWorkOf}
-use Rattle.book_rules.specs.Machine.{BookState, Done, Out, done_at, out_at, all_raised, versions_of, opening, posted, after, replay_from, replay, IsUnit, IsFinished, IsLegal, AllLegal, IsLegalJournal, HasRisen}
+use Rattle.book_rules.proofs.FormLaws.{posts-formed}
+use Rattle.book_rules.specs.Table.{IsWorkOf}
+use Rattle.book_rules.specs.Machine.{BookState, Done, Out, done_at, out_at, all_raised, versions_of, opening, posted, after, IsUnit, IsFinished, IsLegal, HasRisen}
 
 -- a unit of a finished book was done
 done-by : {A : Type 0} (m : Analysis A) (b : BookState A) (unit : WorkUnit) → IsFinished b → IsSteady m b → IsUnit b unit
