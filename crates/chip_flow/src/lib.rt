@@ -5,8 +5,9 @@
 //!   instruction goes on, and of a return from an interrupt.
 //! - [`Kept`] is what is known of a state, as it is handed on and kept.
 //!
-//! Which form the posts of such works have, and which opens tell why a step leaves the model, stands in `specs/Posts.antt` and
-//! `specs/Opens.antt`, for the laws of the chips; where steps land among the posts stands above, in `flow_laws`.
+//! Which limit the cause of an open names stands in `specs/Causes.antt`, a row a cause. Which form the posts of such works have,
+//! and which opens tell why a step leaves the model, stands in `specs/Posts.antt` and `specs/Opens.antt`, for the laws of the
+//! chips; where steps land among the posts stands above, in `flow_laws`.
 #![tactic(auto)]
 
 mod calls;
