@@ -1,7 +1,10 @@
 -- The registers in what is known of a state: what they may hold as operands, and what is known behind a write.
-use Rattle.std.specs.Prelude.{◌≡◌, ℕ, ◌-◌, ◌%◌, ◌<◌, ◌==◌, if◌then◌else◌, Option, None, Some, List, ◌++◌, length, replicate, slice_index, slice_set, All}
+use Rattle.std.specs.Prelude.{◌≡◌, ℕ, ◌+◌, ◌-◌, ◌/◌, ◌%◌, ◌<◌, ◌==◌, if◌then◌else◌, Option, None, Some, List, ◌++◌, length, replicate, slice_index, slice_set, All}
 use Rattle.entry_value.specs.declared.word.Word.{Word}
 use Rattle.value_set.specs.declared.form.Form.{Form}
+use Rattle.value_set.specs.declared.form.Form.TheVariants.{Values, Run}
+use Rattle.value_set.specs.declared.form.Progression.{Progression}
+use Rattle.value_set.specs.Form.{make}
 use Rattle.value_set.specs.Joining.{is_within}
 use Rattle.value_set.specs.Summing.{single}
 use Rattle.value_bits.specs.declared.tri.Logic.TheVariants.{And}
@@ -29,9 +32,18 @@ pub record AreRegisters (registers : List ℕ) : Type 0 where
 
 -- EVEN NUMBERS
 
--- the numbers without bit 0: a set of even numbers as it is, else by AND
+-- the even numbers of a set as they are; of another one by AND
+abbrev pub cleared_parts : Form → Form
+cleared_parts set = if is_within 65536 set even_words then set else logic_set 16 And set (single 65534)
+
+-- from the first number without bit 0 to the last one
+abbrev pub each_second : Progression → Form
+each_second p = make 65536 (p.base - p.base % 2) 2 ((p.count + p.base % 2 + 1) / 2)
+
+-- the numbers without bit 0; of a run without gaps they are every second one
 abbrev pub even_parts : Form → Form
-even_parts set = if is_within 65536 set even_words then set else logic_set 16 And set (single 65534)
+even_parts (Values xs) = cleared_parts (Values xs)
+even_parts (Run p) = if p.stride == 1 then each_second p else cleared_parts (Run p)
 
 -- OPERANDS
 
