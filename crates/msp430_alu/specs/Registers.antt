@@ -1,5 +1,6 @@
 -- The registers in what is known of a state: what they may hold as operands, and what is known behind a write.
-use Rattle.std.specs.Prelude.{◌≡◌, ℕ, ◌+◌, ◌-◌, ◌/◌, ◌%◌, ◌<◌, ◌==◌, if◌then◌else◌, Option, None, Some, List, ◌++◌, length, replicate, slice_index, slice_set, All}
+use Rattle.std.specs.Prelude.{◌≡◌, ℕ, ◌+◌, ◌-◌, ◌/◌, ◌%◌, ◌<◌, ◌==◌, if◌then◌else◌, Option, None, Some, List, ◌++◌, bit_and, bit_or, length, replicate, slice_index, slice_set, All}
+use Rattle.entry_value.specs.declared.word.Entry.{Entry}
 use Rattle.entry_value.specs.declared.word.Word.{Word}
 use Rattle.value_set.specs.declared.form.Form.{Form}
 use Rattle.value_set.specs.declared.form.Form.TheVariants.{Values, Run}
@@ -58,6 +59,14 @@ register_word a counted Sp = record { set = a.sp; entry = None }
 register_word a counted Sr = record { set = status_set a.status; entry = a.status.entry }
 register_word a counted R3 = record { set = single 0; entry = None }
 register_word a counted register = word_of a (number register)
+
+-- SR FROM A WORD
+
+-- A relation to SR stays one. What SR doesn't hold, its bits 9 to 15, is in the AND mask and not in the OR mask.
+abbrev pub status_relation : Option Entry → Option Entry
+status_relation None = None
+status_relation (Some entry) =
+    if entry.place == 2 then Some (record { place = 2; and = bit_or entry.and 65024; or = bit_and entry.or 511 }) else None
 
 -- WRITES
 

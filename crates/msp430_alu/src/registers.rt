@@ -7,7 +7,7 @@ ghost use Rattle.value_bits.specs.declared.tri.Tri.TheVariants.{Either};
 ghost use Rattle.msp430_state.specs.Known.{even_words as all_even_words};
 ghost use Rattle.msp430_alu.specs.Registers as registers;
 
-use entry_value::{Cells, Word};
+use entry_value::{Cells, Entry, Word};
 use msp430_decode::Register;
 use msp430_state::State;
 use value_bits::{Tri, w16};
@@ -62,6 +62,21 @@ fn status_set(held: &[Tri; 9]) -> Vs16
     let mut bits = [Tri::Either; 16];
     bits[..9].copy_from_slice(held);
     w16::from_bits(&bits)
+}
+
+/// The relation that SR gets with a word: one to SR stays. The AND mask has the bits that SR doesn't hold, and the OR mask
+/// hasn't.
+pub fn status_relation(entry: &Option<Entry>) -> Option<Entry>
+    ensures { result ≡ registers.status_relation entry.now }
+{
+    match entry {
+        Some(entry) if entry.place == 2 => Some(Entry {
+            place: 2,
+            and: entry.and | 0xFE00,
+            or: entry.or & 0x01FF,
+        }),
+        _ => None,
+    }
 }
 
 /// A set without a relation.
