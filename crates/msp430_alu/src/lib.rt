@@ -30,8 +30,6 @@ mod reach;
 mod reading;
 mod registers;
 mod stores;
-#[cfg(test)]
-mod tests;
 mod worked;
 mod writing;
 
