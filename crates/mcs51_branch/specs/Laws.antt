@@ -9,16 +9,19 @@ use Rattle.mcs51_chip.specs.declared.state.ChipState.{ChipState}
 use Rattle.mcs51_chip.specs.Leading.{MayRead}
 use Rattle.mcs51_chip.specs.Registers.{bit_of, with_carry}
 use Rattle.mcs51_chip.specs.Step.{holds}
-use Rattle.mcs51_state.specs.Forms.{IsKnown}
+use Rattle.mcs51_state.specs.declared.fact.Compared.{Compared}
+use Rattle.mcs51_state.specs.Forms.{IsCompared, IsKnown}
+use Rattle.mcs51_state.specs.Holding.{compared_in}
 use Rattle.mcs51_state.specs.Known.{Known}
 use Rattle.mcs51_state.specs.Under.{IsUnder}
 use Rattle.mcs51_branch.specs.declared.operand.Operand.{Operand}
+use Rattle.mcs51_branch.specs.Cuts.{with_set}
 use Rattle.mcs51_branch.specs.Jumps.{IsNumberOf, IsOperand, comparison_cut, compared_with, condition_cut, lowered_cut}
 use Rattle.mcs51_branch.specs.Testing.{IsPlace, bit_tested}
 
 -- A state that stands under what is known in front of a jump stands under what is known on the way that the chip goes: by
 -- its condition, behind CJNE with the CY that it writes, and DJNZ's lowered byte is one of its numbers there. What is known on
--- each way is in form.
+-- each way is in form. Of A or a byte of RAM any set may be known that has it.
 pub record JumpsHold : Type 0 where
   pub condition : (framed : Bool) (known : Known) (s : ChipState) (first : Option ChipState) (condition : Condition)
       → IsUnder framed known s first
@@ -41,6 +44,11 @@ pub record JumpsHold : Type 0 where
       ((x + 255) % 256)
   pub lowered_form : (set part : Form) (taken : Bool) → IsNormal 256 set → lowered_cut taken set ≡ Some part
       → IsNormal 256 part
+  pub place : (framed : Bool) (place : Compared) (known : Known) (set : Form) (s : ChipState) (first : Option ChipState)
+      → IsCompared place → IsNormal 256 set → Has 256 set (compared_in place s) → IsUnder framed known s first
+      → IsUnder framed (with_set place known set) s first
+  pub place_form : (framed : Bool) (place : Compared) (known : Known) (set : Form) → IsCompared place → IsNormal 256 set
+      → IsKnown framed known → IsKnown framed (with_set place known set)
 
 -- The same of a jump by a bit: whatever the byte may be read as, where the chip finds its bit so the way isn't left out.
 pub record BitsHold : Type 0 where

@@ -12,7 +12,8 @@
 //! Proved of the formulas, in functions that do nothing:
 //!
 //! - [`bits_hold`], [`jumps_hold`]: a state of the chip that stands under what is known in front of a jump stands under what is known on the
-//!   way that the chip goes, which is never left out. What is known on each way is in form.
+//!   way that the chip goes, which is never left out. What is known on each way is in form. It stands under what is known with
+//!   any other set for A or a byte of RAM that has it, too.
 #![tactic(auto)]
 
 mod carry;

@@ -47,7 +47,8 @@ use Rattle.msp430_results.specs.InstructionLaws.{InstructionLaws}
 use Rattle.msp430_alu.specs.Registers.{with_flag_bits}
 use Rattle.msp430_results.specs.Results.{double_made, twice_flags}
 use Rattle.msp430_alu.specs.NumberFacts.{single_is}
-use Rattle.msp430_alu.proofs.Doubles.{counter_is, related, constant_value_is, written_is, one_register}
+use Rattle.msp430_alu.specs.RelationFacts.{constant_value_is, related}
+use Rattle.msp430_alu.proofs.Doubles.{counter_is, written_is, one_register}
 use Rattle.msp430_alu.proofs.Growth.{way}
 use Rattle.msp430_alu.proofs.OperandLemmas.{IsOnTheWay, IsOperand, destination_reached, operand_held}
 use Rattle.msp430_alu.proofs.Parts.{parts_counted, flags_written}
@@ -141,7 +142,7 @@ result_related : (laws : InstructionLaws) {first : Option Suspended} {device : D
     → width ≡ Words → IsFromEntry first (relation_of done (constant_of origin) one.entry other.entry) made_so.0
 result_related laws Byte carry made_so is are may e = absurd (cc)
 result_related laws {first} {device} {ram} {registers} {pc} {len} {done} Words {origin} {target} {one} {other} {x} {y} {bits} carry made_so is are may e =
-    related laws first done (constant_of origin) one.entry other.entry (with_free_bits Words (source_place pc registers origin) bits x)
+    related laws.known first done (constant_of origin) one.entry other.entry (with_free_bits Words (source_place pc registers origin) bits x)
     (with_free_bits Words (destination_place pc len (grown registers Words origin) target) bits y) carry made_so may
     (λ m constant. constant_value_is device ram registers pc origin x bits m is constant are.stands) (are.source.holds refl).1 (are.target_so.holds refl).1
 

@@ -12,8 +12,6 @@ use Rattle.value_set.specs.declared.form.Form.{Form}
 use Rattle.value_set.specs.Form.{Has}
 use Rattle.value_set.specs.Summing.{single}
 use Rattle.value_bits.specs.Sets.{low_set}
-use Rattle.msp430_decode.specs.declared.instr.Constant.{Constant}
-use Rattle.msp430_decode.specs.declared.instr.Constant.TheVariants.{Zero}
 use Rattle.msp430_decode.specs.declared.instr.Destination.{Destination}
 use Rattle.msp430_decode.specs.declared.instr.Destination.TheVariants as destination
 use Rattle.msp430_decode.specs.declared.instr.Register.{Register}
@@ -23,7 +21,7 @@ use Rattle.msp430_decode.specs.declared.instr.Source.TheVariants as source
 use Rattle.msp430_decode.specs.declared.instr.Width.{Width}
 use Rattle.msp430_decode.specs.declared.instr.Width.TheVariants.{Word as Words, Byte}
 use Rattle.msp430_decode.specs.Codes.{number}
-use Rattle.msp430_decode.specs.Operands.{IsPointer, IsSource, IsDestination, constant_value}
+use Rattle.msp430_decode.specs.Operands.{IsPointer, IsSource, IsDestination}
 use Rattle.msp430_chip.specs.declared.device.Device.{Device}
 use Rattle.msp430_chip.specs.declared.place.Place.{Place}
 use Rattle.msp430_chip.specs.declared.place.Place.TheVariants as place
@@ -37,6 +35,7 @@ use Rattle.msp430_state.specs.FormFacts.{no_relation}
 use Rattle.msp430_state.specs.Forms.{IsWord, IsKnown}
 use Rattle.msp430_state.specs.Holding.{suspended_of, HoldsOfParts}
 use Rattle.msp430_state.specs.Known.{Known, word_of}
+use Rattle.msp430_alu.specs.RelationFacts.{constant_small}
 use Rattle.msp430_alu.specs.declared.reach.Reach.{Reach}
 use Rattle.msp430_alu.specs.declared.reach.Reach.TheVariants.{InRegister, InMemory, Fixed}
 use Rattle.msp430_results.specs.FlagSets.{IsResult}
@@ -120,10 +119,6 @@ beside_held : (laws : InstructionLaws) {device : Device} {framed : Bool} {a : Kn
 beside_held laws {a} {counted} {registers} on register offset pointer small =
     add_is laws.known 65536 (value_in registers register) offset (register_word a counted register).set (single offset)
     (pointer_held laws on register pointer) (single_is laws.known 65536 offset small)
-
-pub constant_small : (constant : Constant) → constant_value constant < 65536
-constant_small Zero = omega arith
-constant_small other = omega arith
 
 wrapped : (n : ℕ) → n % 65536 < 65536
 wrapped n = omega arith

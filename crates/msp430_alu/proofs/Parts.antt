@@ -184,5 +184,5 @@ flags_written None (Some flags) long as_long form are holds = absurd are
 flags_written (Some flags_so) None long as_long form are holds = absurd are
 flags_written {a} {registers} (Some flags_so) (Some flags) long as_long form are holds =
     let sr = get_or registers 2 0 in
-    status_written registers (put_flags a.status.bits flags_so) (with_flags sr flags) long (put_agrees a.status.bits flags_so sr flags as_long are holds.status.bits)
-    (λ r low. refl) holds
+    status_written registers (record { bits = put_flags a.status.bits flags_so; entry = None }) (with_flags sr flags) long
+    (record { bits = put_agrees a.status.bits flags_so sr flags as_long are holds.status.bits; entry = tt }) (λ r low. refl) holds

@@ -21,7 +21,8 @@ use Rattle.msp430_alu.proofs.WhereAccesses.{located_even, located_is, located_no
 use Rattle.msp430_alu.proofs.ReadingLemmas.{IsMemory, known_held, read_known_normal}
 use Rattle.msp430_alu.proofs.Shapes.{store_form}
 use Rattle.msp430_alu.proofs.Storing.{store_holds}
-use Rattle.msp430_alu.proofs.WorkedForms.{list_relation, status_normal, status_relation}
+use Rattle.msp430_alu.specs.RelationFacts.{own_relation}
+use Rattle.msp430_alu.proofs.WorkedForms.{list_relation, status_normal}
 
 pub word_located : (laws : InstructionLaws) (device : Device) (set : Form) (at : ℕ) → HasRam device → IsNormal 65536 set → Has 65536 set at
     → Has 65536 (located device Words set) (aligned device Words at)
@@ -74,4 +75,4 @@ word_read_form laws device framed a set is form = record {
 
 pub status_word_form : (laws : InstructionLaws) (framed : Bool) (status : Status) → length status.bits ≡ 9 → IsStatusRelation framed status.entry
     → IsWord framed (record { set = status_set status; entry = status.entry })
-status_word_form laws framed status long form = record { normal = status_normal laws status long; entry = status_relation framed status.entry form }
+status_word_form laws framed status long form = record { normal = status_normal laws status long; entry = own_relation framed status.entry form }

@@ -1,11 +1,10 @@
 -- What is made of a state has the form of states.
-use Rattle.msp430_state.specs.FormFacts.{and_form, no_relation, or_form}
+use Rattle.msp430_state.specs.FormFacts.{no_relation}
 use Rattle.msp430_alu.specs.NumberFacts.{even_parts_form, moved_normal}
-use Rattle.std.proofs.Common.{◌≡◌, ℕ, ◌+◌, ◌-◌, ◌%◌, ◌<◌, ◌==◌, ◌&&◌, ◌++◌, Bool, true, false, Option, None, Some, List, [], ◌∷◌, length, replicate, refl, ap, ◌∙◌, subst, arith, Contains}
+use Rattle.std.proofs.Common.{◌≡◌, ℕ, ◌+◌, ◌-◌, ◌%◌, ◌<◌, ◌==◌, ◌&&◌, ◌++◌, Bool, true, false, Option, None, Some, List, [], ◌∷◌, length, replicate, refl, ◌∙◌, arith, Contains}
 use Rattle.std.specs.Prelude.{nat_le}
 use Rattle.std.proofs.lemmas.Bool.{cond_both}
 use Rattle.std.proofs.lemmas.List.{length-append, length-replicate}
-use Rattle.std.proofs.lemmas.Option.{same_Some}
 use Rattle.plain_lemmas.specs.Members.{in_first, in_rest}
 use Rattle.entry_value.specs.declared.cells.Cell.{Cell}
 use Rattle.entry_value.specs.declared.word.Entry.{Entry}
@@ -22,7 +21,6 @@ use Rattle.value_bits.specs.Sets.{pair_set}
 use Rattle.msp430_decode.specs.declared.instr.Destination.{Destination}
 use Rattle.msp430_decode.specs.declared.instr.Destination.TheVariants as destination
 use Rattle.msp430_decode.specs.declared.instr.Operation.{Operation}
-use Rattle.msp430_decode.specs.declared.instr.Operation.TheVariants as operation
 use Rattle.msp430_decode.specs.declared.instr.Register.{Register}
 use Rattle.msp430_decode.specs.declared.instr.Register.TheVariants.{Pc}
 use Rattle.msp430_decode.specs.declared.instr.SingleOperation.{SingleOperation}
@@ -32,7 +30,7 @@ use Rattle.msp430_decode.specs.declared.instr.Source.TheVariants as source
 use Rattle.msp430_decode.specs.declared.instr.Width.{Width}
 use Rattle.msp430_decode.specs.declared.instr.Width.TheVariants.{Word as Words, Byte}
 use Rattle.msp430_decode.specs.Codes.{number}
-use Rattle.msp430_decode.specs.Operands.{IsSource, IsDestination, constant_value}
+use Rattle.msp430_decode.specs.Operands.{IsSource, IsDestination}
 use Rattle.msp430_chip.specs.declared.device.Device.{Device}
 use Rattle.msp430_chip.specs.Arithmetic.{modulus, reads_destination, writes_result}
 use Rattle.msp430_chip.specs.Kinds.{Kind}
@@ -41,11 +39,11 @@ use Rattle.msp430_chip.specs.Memory.{is_ram, size_of}
 use Rattle.msp430_chip.specs.Operands.{growth}
 use Rattle.msp430_chip.specs.Step.{reads_counter, is_formed_by_stack}
 use Rattle.msp430_state.specs.declared.status.Status.{Status as StatusBits}
-use Rattle.msp430_state.specs.Forms.{is_place, IsRelation, IsStatusRelation, IsWord, IsChipCell, IsKnown}
+use Rattle.msp430_state.specs.Forms.{IsRelation, IsWord, IsChipCell, IsKnown}
 use Rattle.msp430_state.specs.Known.{Known}
 use Rattle.msp430_alu.specs.declared.reach.Reach.{Reach}
 use Rattle.msp430_alu.specs.declared.reach.Reach.TheVariants.{InRegister, InMemory, Fixed}
-use Rattle.msp430_alu.specs.Formats.{lowered_known, forming_known, pushed_known, called_next, push_worked, single_worked, double_worked, constant_of, relation_of, masked_and, masked_clear, masked_or, counter_set, is_doubled, carry_of, destination_word, made_of, put_known, put_known_if, next_by, next_if, double_worked}
+use Rattle.msp430_alu.specs.Formats.{lowered_known, forming_known, pushed_known, called_next, push_worked, single_worked, double_worked, constant_of, relation_of, counter_set, is_doubled, carry_of, destination_word, made_of, put_known, put_known_if, next_by, next_if, double_worked}
 use Rattle.msp430_results.specs.Words.{values_of, written_word}
 use Rattle.msp430_results.specs.FlagSets.{MadeSet}
 use Rattle.msp430_alu.specs.Memory.{IsDevice, located, word_by, byte_by, program_word, read_one, read_each, read_list}
@@ -54,7 +52,8 @@ use Rattle.msp430_results.specs.InstructionLaws.{InstructionLaws}
 use Rattle.msp430_alu.specs.Registers.{even_parts, status_set, register_word, with_flag_bits, with_sp}
 use Rattle.msp430_results.specs.Results.{double_made, single_made, twice_flags, HasWidth}
 use Rattle.msp430_alu.proofs.Growth.{growth_small}
-use Rattle.msp430_alu.proofs.OperandLemmas.{constant_small, general_word, word_of_form}
+use Rattle.msp430_alu.specs.RelationFacts.{constant_below, constant_small, own_relation, relation_form}
+use Rattle.msp430_alu.proofs.OperandLemmas.{general_word, word_of_form}
 use Rattle.msp430_alu.proofs.WhereAccesses.{located_even, located_normal}
 use Rattle.msp430_alu.proofs.ReadingLemmas.{read_known_normal}
 use Rattle.msp430_alu.proofs.Shapes.{IsCellWord, register_form, sp_form, flags_form, store_form}
@@ -66,18 +65,13 @@ status_normal laws status long =
     let count : length (status.bits ++ replicate 7 Either) ≡ 16 = length-append status.bits (replicate 7 Either) ∙ omega (arith, long, length-replicate 7 Either) in
     laws.known.bits.from_normal 16 (status.bits ++ replicate 7 Either) count
 
-pub status_relation : (framed : Bool) (entry : Option Entry) → IsStatusRelation framed entry → IsRelation framed entry
-status_relation framed None form = tt
-status_relation false (Some entry) form = form
-status_relation true (Some entry) (place, and_small, high, or_small) = (ap is_place place, and_small, omega (arith, or_small))
-
 register_word_form : (laws : InstructionLaws) {lo hi : ℕ} {framed : Bool} {a : Known} (counted : Form) → IsKnown lo hi framed a
     → IsNormal 65536 counted → {register : Register}
     → Kind register → IsWord framed (register_word a counted register)
 register_word_form laws {framed} counted form normal (Counter e) = rw e (record { normal = normal; entry = no_relation framed })
 register_word_form laws {framed} counted form normal (Stack e) = rw e (record { normal = form.sp.normal; entry = no_relation framed })
 register_word_form laws {framed} {a} counted form normal (Status e) =
-    rw e (record { normal = status_normal laws a.status form.bits; entry = status_relation framed a.status.entry form.status })
+    rw e (record { normal = status_normal laws a.status form.bits; entry = own_relation framed a.status.entry form.status })
 register_word_form laws {framed} counted form normal (Empty e) = rw e (record { normal = (laws.known.sets.single 65536 0 (omega arith)).0; entry = no_relation framed })
 register_word_form laws {a} counted form normal {register} (General is) = rw (general_word a counted register is.above) (word_of_form laws form (number register))
 
@@ -202,39 +196,6 @@ pub values_form : (laws : InstructionLaws) {framed : Bool} (width : Width) {word
     → IsNormal (modulus width) (values_of width word)
 values_form laws Words is = is.normal
 values_form laws Byte {word} is = laws.known.bits.low_normal word.set is.normal
-
--- RELATIONS OF RESULTS
-
-masked_and_form : (framed : Bool) (constant : Option ℕ) (entry : Option Entry) → IsRelation framed entry
-    → IsRelation framed (masked_and constant entry)
-masked_and_form framed None entry form = no_relation framed
-masked_and_form framed (Some m) entry form = and_form framed m entry form
-
-masked_clear_form : (framed : Bool) (constant : Option ℕ) (entry : Option Entry) → IsRelation framed entry
-    → IsRelation framed (masked_clear constant entry)
-masked_clear_form framed None entry form = no_relation framed
-masked_clear_form framed (Some m) entry form = and_form framed (65535 - m) entry form
-
-masked_or_form : (framed : Bool) (constant : Option ℕ) (entry : Option Entry)
-    → ((m : ℕ) → constant ≡ Some m → m < 65536) → IsRelation framed entry
-    → IsRelation framed (masked_or constant entry)
-masked_or_form framed None entry small form = no_relation framed
-masked_or_form framed (Some m) entry small form = or_form framed m entry (small m refl) form
-
-relation_form : (framed : Bool) (done : Operation) (constant : Option ℕ) (one other : Option Entry)
-    → ((m : ℕ) → constant ≡ Some m → m < 65536) → IsRelation framed one
-    → IsRelation framed other
-    → IsRelation framed (relation_of done constant one other)
-relation_form framed operation.Mov constant one other small h k = h
-relation_form framed operation.And constant one other small h k = masked_and_form framed constant other k
-relation_form framed operation.Bic constant one other small h k = masked_clear_form framed constant other k
-relation_form framed operation.Bis constant one other small h k = masked_or_form framed constant other small k
-relation_form framed other constant one two small h k = no_relation framed
-
-constant_below : (origin : Source) (m : ℕ) → IsSource origin → constant_of origin ≡ Some m → m < 65536
-constant_below (source.Immediate value) m is e = subst (λ n. n < 65536) (same_Some value m e) is
-constant_below (source.Constant constant) m is e = subst (λ n. n < 65536) (same_Some (constant_value constant) m e) (constant_small constant)
-constant_below other m is e = absurd (cc)
 
 -- WRITES
 

@@ -4,4 +4,5 @@ pub mod NumberFacts
 pub mod StateFacts
 pub mod Operands
 pub mod Formats
+pub mod RelationFacts
 pub mod Laws

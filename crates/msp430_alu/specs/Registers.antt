@@ -1,7 +1,11 @@
 -- The registers in what is known of a state: what they may hold as operands, and what is known behind a write.
-use Rattle.std.specs.Prelude.{◌≡◌, ℕ, ◌-◌, ◌%◌, ◌<◌, ◌==◌, if◌then◌else◌, Option, None, Some, List, ◌++◌, length, replicate, slice_index, slice_set, All}
+use Rattle.std.specs.Prelude.{◌≡◌, ℕ, ◌+◌, ◌-◌, ◌/◌, ◌%◌, ◌<◌, ◌==◌, if◌then◌else◌, Option, None, Some, List, ◌++◌, bit_and, bit_or, length, replicate, slice_index, slice_set, All}
+use Rattle.entry_value.specs.declared.word.Entry.{Entry}
 use Rattle.entry_value.specs.declared.word.Word.{Word}
 use Rattle.value_set.specs.declared.form.Form.{Form}
+use Rattle.value_set.specs.declared.form.Form.TheVariants.{Values, Run}
+use Rattle.value_set.specs.declared.form.Progression.{Progression}
+use Rattle.value_set.specs.Form.{make}
 use Rattle.value_set.specs.Joining.{is_within}
 use Rattle.value_set.specs.Summing.{single}
 use Rattle.value_bits.specs.declared.tri.Logic.TheVariants.{And}
@@ -29,9 +33,18 @@ pub record AreRegisters (registers : List ℕ) : Type 0 where
 
 -- EVEN NUMBERS
 
--- the numbers without bit 0: a set of even numbers as it is, else by AND
+-- the even numbers of a set as they are; of another one by AND
+abbrev pub cleared_parts : Form → Form
+cleared_parts set = if is_within 65536 set even_words then set else logic_set 16 And set (single 65534)
+
+-- from the first number without bit 0 to the last one
+abbrev pub each_second : Progression → Form
+each_second p = make 65536 (p.base - p.base % 2) 2 ((p.count + p.base % 2 + 1) / 2)
+
+-- the numbers without bit 0; of a run without gaps they are every second one
 abbrev pub even_parts : Form → Form
-even_parts set = if is_within 65536 set even_words then set else logic_set 16 And set (single 65534)
+even_parts (Values xs) = cleared_parts (Values xs)
+even_parts (Run p) = if p.stride == 1 then each_second p else cleared_parts (Run p)
 
 -- OPERANDS
 
@@ -46,6 +59,14 @@ register_word a counted Sp = record { set = a.sp; entry = None }
 register_word a counted Sr = record { set = status_set a.status; entry = a.status.entry }
 register_word a counted R3 = record { set = single 0; entry = None }
 register_word a counted register = word_of a (number register)
+
+-- SR FROM A WORD
+
+-- A relation to SR stays one. What SR doesn't hold, its bits 9 to 15, is in the AND mask and not in the OR mask.
+abbrev pub status_relation : Option Entry → Option Entry
+status_relation None = None
+status_relation (Some entry) =
+    if entry.place == 2 then Some (record { place = 2; and = bit_or entry.and 65024; or = bit_and entry.or 511 }) else None
 
 -- WRITES
 

@@ -150,8 +150,9 @@ fn masked_or(constant: Option<u16>, entry: Option<Entry>) -> Option<Entry>
     }
 }
 
-/// The relation of a result: copies keep one, AND, BIC and BIS with a constant mask it, and all else drops it.
-pub(crate) fn relation_of(
+/// The relation of a result, by those of the source and of the destination: copies keep one, AND, BIC and BIS with a constant
+/// mask it, and all else drops it.
+pub fn relation_of(
     operation: Operation,
     origin: Source,
     source: Option<Entry>,

@@ -5,6 +5,7 @@
 //! - [`counter_set`]: what PC may be as an operand.
 //! - [`source_reach`] and [`destination_reach`]: where operands may stand, as a [`Reach`]; [`located`]: where the accesses there are made.
 //! - [`register_word`], [`read_one`], [`read_known`] and [`known_operand`]: what operands may hold.
+//! - [`relation_of`]: what the result came from. [`status_relation`]: the same of a result in SR.
 //! - [`grow`], [`put_register`] and [`set_flag_bits`]: writes to registers and to flags. PC and SP hold the [`even_parts`].
 //! - [`store`]: stores to memory. [`show`]: the accesses that are made there.
 //!
@@ -29,19 +30,17 @@ mod reach;
 mod reading;
 mod registers;
 mod stores;
-#[cfg(test)]
-mod tests;
 mod worked;
 mod writing;
 
 pub use counting::counter_set;
-pub use formats::show;
+pub use formats::{relation_of, show};
 pub use here::Here;
 pub use laws::{doubles_hold, memory_laws, pushes_hold, singles_hold, words_in_memory};
 pub use operands::{destination_reach, located, source_reach};
 pub use reach::Reach;
 pub use reading::{known_operand, read_known, read_one};
-pub use registers::{even_parts, register_word};
+pub use registers::{even_parts, register_word, status_relation};
 pub use stores::store;
 pub use worked::{Worked, double, push, single};
 pub use writing::{grow, put_register, set_flag_bits};

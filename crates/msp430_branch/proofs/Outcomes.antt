@@ -70,6 +70,17 @@ word_form : {lo hi : ℕ} {framed : Bool} {a : Known} (register : ℕ) → IsKno
     → register < 16 → IsWord framed (word_of a register)
 word_form {framed} {a} register form low high = All-get_or (IsWord framed) a.registers (register - 4) (unknown 2) (omega (arith, form.count, low, high)) form.registers
 
+pub set_holds : (device : Device) (lo hi : ℕ) (framed : Bool) (a : Known) (s : ChipState) (first : Option ChipState) (register : ℕ) (set_so : Form)
+    → IsKnown lo hi framed a
+    → 3 < register → register < 16 → Has 65536 set_so (get_or s.registers register 0)
+    → HoldsOf device a s first → HoldsOf device (with_set a register set_so) s first
+set_holds device lo hi framed a s first register set_so form low high has holds = record {
+  state = holds.state;
+  suspended = holds.suspended;
+  late = holds.late;
+  parts = with_set_holds register set_so form.count low high has holds.parts;
+}
+
 with_set_form : {lo hi : ℕ} {framed : Bool} {a : Known} (register : ℕ) (set_so : Form) → 3 < register → register < 16
     → IsNormal 65536 set_so → IsKnown lo hi framed a
     → IsKnown lo hi framed (with_set a register set_so)
@@ -78,6 +89,11 @@ with_set_form {framed} {a} register set_so low high normal form =
     let count = length-set a.registers (register - 4) word ∙ form.count in
     let registers = All-set (IsWord framed) a.registers (register - 4) word (record { normal = normal; entry = (word_form register form low high).entry }) form.registers in
     assumption (count, registers, form)
+
+pub set_form : (lo hi : ℕ) (framed : Bool) (a : Known) (register : ℕ) (set_so : Form) → IsKnown lo hi framed a
+    → 3 < register → register < 16
+    → IsNormal 65536 set_so → IsKnown lo hi framed (with_set a register set_so)
+set_form lo hi framed a register set_so form low high normal = with_set_form register set_so low high normal form
 
 -- BITS
 

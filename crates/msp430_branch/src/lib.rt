@@ -10,7 +10,8 @@
 //! Proved of the formulas:
 //!
 //! - [`facts_hold`]: the fact behind an instruction holds of the registers that the chip leaves.
-//! - [`cuts_hold`]: a state that stands under what is known stands under what is known on the outcome that its SR says.
+//! - [`cuts_hold`]: a state that stands under what is known stands under what is known on the outcome that its SR says, and under
+//!   what is known with any other set for one of R4 to R15 that has its number.
 #![tactic(auto)]
 
 mod conditions;

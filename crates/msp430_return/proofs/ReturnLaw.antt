@@ -28,7 +28,8 @@ use Rattle.msp430_alu.specs.Registers.{even_parts}
 use Rattle.msp430_alu.specs.Laws.{MemoryLaws}
 use Rattle.msp430_return.specs.Return.{counter_place, left_of_return, return_accesses, return_items, return_worked, status_from, status_place}
 use Rattle.msp430_alu.specs.NumberFacts.{add_is, even_parts_form, even_parts_is, single_is, sum_even}
-use Rattle.msp430_return.proofs.StatusWord.{status_form, status_holds, status_length}
+use Rattle.msp430_alu.specs.RelationFacts.{status_relation_form}
+use Rattle.msp430_return.proofs.StatusWord.{status_holds, status_length}
 
 -- THE SLOTS
 
@@ -153,7 +154,7 @@ unfolding return_worked
 return_form laws device framed a pc is form =
     let word = read_known device a Words (status_place device a.sp) in
     let sp = sum_even laws.known a.sp 4 (omega arith) refl form.sp in
-    let status = status_form framed word.entry (laws.words.read_form device framed a (status_place device a.sp) is form).entry in
+    let status = status_relation_form framed word.entry (laws.words.read_form device framed a (status_place device a.sp) is form).entry in
     assumption (sp, status_length word, status, form)
 
 pub return_next : (laws : MemoryLaws) (device : Device) (framed : Bool) (a : Known) (pc : ℕ) → IsDevice device

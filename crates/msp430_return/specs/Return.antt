@@ -1,6 +1,6 @@
 -- What RETI makes of what is known of a state, and where it goes back to the state that an interrupt suspended (SLAU049,
 -- chapter 2, "Return From Interrupt").
-use Rattle.std.specs.Prelude.{ℕ, ◌+◌, ◌%◌, ◌==◌, ◌&&◌, if◌then◌else◌, Bool, false, Option, None, Some, List, [], ◌∷◌, bit_and, bit_or, take, slice_set}
+use Rattle.std.specs.Prelude.{ℕ, ◌+◌, ◌%◌, ◌==◌, ◌&&◌, Bool, false, Option, None, Some, List, [], ◌∷◌, take, slice_set}
 use Rattle.chip_numbers.specs.Single.{Single}
 use Rattle.chip_numbers.specs.Single.Single.{Access as Touched}
 use Rattle.call_context.specs.declared.node.Frame.{Frame}
@@ -25,17 +25,11 @@ use Rattle.msp430_state.specs.declared.status.Status.{Status}
 use Rattle.msp430_state.specs.Known.{Known}
 use Rattle.msp430_alu.specs.Formats.{Worked}
 use Rattle.msp430_alu.specs.Memory.{located, read_known}
-use Rattle.msp430_alu.specs.Registers.{even_parts}
+use Rattle.msp430_alu.specs.Registers.{even_parts, status_relation}
 
 -- SR FROM A WORD
 
--- A relation to SR stays one. What SR doesn't hold, its bits 9 to 15, is in the AND mask and not in the OR mask.
-abbrev pub status_relation : Option Entry → Option Entry
-status_relation None = None
-status_relation (Some entry) =
-    if entry.place == 2 then Some (record { place = 2; and = bit_or entry.and 65024; or = bit_and entry.or 511 }) else None
-
--- SR holds the lowest nine bits
+-- SR holds the lowest nine bits, and a relation to SR
 abbrev pub status_from : Word → Status
 status_from word = record { bits = take 9 (known_bits 16 word.set); entry = status_relation word.entry }
 

@@ -12,7 +12,7 @@ ghost use Rattle.msp430_return.specs.Return as returning;
 
 use call_context::{Frame, Item, Sequence, Set, Space};
 use entry_value::{Cells, Entry, Word};
-use msp430_alu::{Here, Worked, even_parts, located, read_known};
+use msp430_alu::{Here, Worked, even_parts, located, read_known, status_relation};
 use msp430_chip::Device;
 use msp430_decode::Width;
 use msp430_state::{State, Status};
@@ -28,20 +28,6 @@ fn word_at<M: Cells>(device: &Device, state: &State<M>, at: &Vs16) -> Word
 {
     let at = located(device, Width::Word, at);
     read_known(device, state, Width::Word, &at)
-}
-
-/// A relation to SR stays one: the AND mask has the bits that SR doesn't hold, and the OR mask hasn't.
-fn status_relation(entry: &Option<Entry>) -> Option<Entry>
-    ensures { result ≡ returning.status_relation entry.now }
-{
-    match entry {
-        Some(entry) if entry.place == 2 => Some(Entry {
-            place: 2,
-            and: entry.and | 0xFE00,
-            or: entry.or & 0x01FF,
-        }),
-        _ => None,
-    }
 }
 
 /// SR from a word: its lowest nine bits.

@@ -3,13 +3,15 @@ use Rattle.std.proofs.Common.{◌≡◌, ℕ, ◌+◌, ◌*◌, ◌%◌, ◌<◌
 use Rattle.std.proofs.lemmas.Bool.{cases_Bool, cond-false, false≢true}
 use Rattle.std.proofs.lemmas.List.{length-set}
 use Rattle.std.proofs.lemmas.List.Elements.{All-get_or}
+use Rattle.std.specs.Option.{option_map}
 use Rattle.choosing.specs.Asking.{IsOption}
 use Rattle.entry_value.specs.declared.word.Entry.{Entry}
 use Rattle.entry_value.specs.declared.word.Word.{Word}
 use Rattle.entry_value.specs.Cells.{unknown}
+use Rattle.entry_value.specs.Words.{HoldsOfWord, IsFromEntry}
 use Rattle.irq_frames.specs.KnownLaws.{KnownLaws}
 use Rattle.value_set.specs.declared.form.Form.{Form}
-use Rattle.value_set.specs.Form.{Has, IsNormal}
+use Rattle.value_set.specs.Form.{Has}
 use Rattle.value_set.specs.Summing.{single}
 use Rattle.value_bits.specs.Bits.{Agrees, known_bits}
 use Rattle.msp430_decode.specs.declared.instr.Destination.TheVariants as destination
@@ -37,11 +39,11 @@ use Rattle.msp430_chip.specs.Outcome.{Outcome}
 use Rattle.msp430_chip.specs.State.{even, register_of}
 use Rattle.msp430_chip.specs.Step.{Left, behind, done as ended, double_accesses, put, reads_counter, with_status}
 use Rattle.msp430_results.specs.Words.{values_of, written_word}
-use Rattle.msp430_state.specs.Forms.{IsKnown, IsWord}
-use Rattle.msp430_state.specs.Holding.{HoldsOfParts}
+use Rattle.msp430_state.specs.Forms.{IsKnown, IsRelation, IsWord}
+use Rattle.msp430_state.specs.Holding.{HoldsOfParts, suspended_of}
 use Rattle.msp430_state.specs.Known.{Known, word_of}
 use Rattle.msp430_alu.specs.Formats.{IsUnder, counter_set, double_worked}
-use Rattle.msp430_alu.specs.Laws.{DoublesHold}
+use Rattle.msp430_alu.specs.Laws.{DoublesHold, WordsHold}
 use Rattle.msp430_alu.specs.Memory.{IsDevice}
 use Rattle.msp430_alu.specs.Operands.{grown_known, operand_word, source_reach}
 use Rattle.msp430_status.specs.Status.{lowest_bits}
@@ -50,6 +52,7 @@ use Rattle.msp430_status.proofs.BitLemmas.{AgreesBelow, places, taken_agrees}
 -- the laws of instructions and of bits that the law of SR rests on
 pub record StatusLaws : Type 0 where
   pub known : KnownLaws
+  pub words : WordsHold
   pub doubles : DoublesHold
   pub places : PlaceLaws
 
@@ -170,6 +173,11 @@ written_set : (width : Width) (word : Word) (entry : Option Entry)
 written_set Words word entry = refl
 written_set Byte word entry = refl
 
+written_entry : (width : Width) (word : Word) (entry : Option Entry) → width ≡ Words
+    → (written_word width (values_of width word) entry).entry ≡ entry
+written_entry Words word entry e = refl
+written_entry Byte word entry e = absurd (cc)
+
 -- the word that MOV to R4 leaves there
 moved_word : (laws : StatusLaws) {device : Device} {framed : Bool} {a : Known} (pc len : ℕ) (width : Width) (origin : Source)
     → IsDevice device
@@ -187,15 +195,26 @@ moved_word laws {device} {framed} {a} pc len width origin is form from_so =
     let some : 0 < length grown_so.registers = omega (arith, grown_is.count) in
     get_or-set_same grown_so.registers 0 (written_word width (values_of width word) word.entry) (unknown 2) some
 
-moved_normal : (laws : StatusLaws) {device : Device} {framed : Bool} {a : Known} (pc len : ℕ) (width : Width) (origin : Source)
+moved_word_form : (laws : StatusLaws) {device : Device} {framed : Bool} {a : Known} (pc len : ℕ) (width : Width) (origin : Source)
     → IsDevice device
     → IsKnown device.ram.lo device.ram.hi framed a → IsSource origin
-    → IsNormal 65536 (word_of (double_worked device framed a pc len Mov width origin (destination.Register R4)).after 4).set
-moved_normal laws {device} {framed} {a} pc len width origin is form from_so =
+    → IsWord framed (word_of (double_worked device framed a pc len Mov width origin (destination.Register R4)).after 4)
+moved_word_form laws {device} {framed} {a} pc len width origin is form from_so =
     let after = (double_worked device framed a pc len Mov width origin (destination.Register R4)).after in
     let known = laws.doubles.form device framed a pc len Mov width origin (destination.Register R4) is form from_so tt in
-    let word : IsWord framed (word_of after 4) = All-get_or (IsWord framed) after.registers 0 (unknown 2) (omega (arith, known.count)) known.registers in
-    word.normal
+    All-get_or (IsWord framed) after.registers 0 (unknown 2) (omega (arith, known.count)) known.registers
+
+-- the relation of a word, as the source is read, is in form
+pub source_relation : (laws : StatusLaws) {device : Device} {framed : Bool} {a : Known} (pc len : ℕ) (width : Width) (origin : Source)
+    → IsDevice device
+    → IsKnown device.ram.lo device.ram.hi framed a → IsSource origin → width ≡ Words
+    → let counted = single ((pc + len) % 65536) in IsRelation framed (operand_word device a counted width (source_reach pc a counted origin)).entry
+source_relation laws {device} {framed} {a} pc len width origin is form from_so e =
+    let Relation : Form → Type 0 = λ counted. IsRelation framed (operand_word device a counted width (source_reach pc a counted origin)).entry in
+    let counted = counter_set pc len origin (destination.Register R4) in
+    let word = operand_word device a counted width (source_reach pc a counted origin) in
+    let same = ap (λ (w : Word). w.entry) (moved_word laws pc len width origin is form from_so) ∙ written_entry width word word.entry e in
+    subst Relation (counter_one laws pc len origin R4) (subst (IsRelation framed) same (moved_word_form laws pc len width origin is form from_so).entry)
 
 with_length : (laws : StatusLaws) (registers : List ℕ) (register : Register) (value : ℕ)
     → length (with_register registers register value) ≡ length registers
@@ -226,35 +245,43 @@ moved_number laws device s len counted width origin v sixteen =
     let long = behind_length laws s len counted width origin in
     get_or-set_other (set registers 4 v) 2 4 _ 0 (λ e. omega (arith, e)) ∙ get_or-set_same registers 4 v 0 (omega (arith, long, sixteen))
 
--- the source's number has the bits that are known of it
-pub record IsKnownSource (device : Device) (a : Known) (pc len : ℕ) (width : Width) (origin : Source) (v : ℕ) : Type 0 where
+-- the source's number has the bits that are known of it, and a word came from where its relation says
+pub record IsKnownSource (device : Device) (a : Known) (first : Option ChipState) (pc len : ℕ) (width : Width) (origin : Source) (v : ℕ) : Type 0 where
   pub agrees : let counted = single ((pc + len) % 65536) in AgreesBelow (places width)
       (lowest_bits width (operand_word device a counted width (source_reach pc a counted origin))) v
+  pub from : width ≡ Words → let counted = single ((pc + len) % 65536) in
+      IsFromEntry (option_map suspended_of first) (operand_word device a counted width (source_reach pc a counted origin)).entry v
   pub below : v < 65536
 
 pub source_known : (laws : StatusLaws) {device : Device} {framed : Bool} {a : Known} {s : ChipState} {first : Option ChipState} {len : ℕ} {done : Operation} {width : Width}
     {origin : Source} {outcome : Outcome ChipState}
     → IsUnder device framed a s first → IsSource origin → (may : MayDouble device s len done width origin (destination.Register Sr) outcome)
-    → IsKnownSource device a (register_of s 0) len width origin (source_number s may.counted width origin may.bits may.x)
+    → IsKnownSource device a first (register_of s 0) len width origin (source_number s may.counted width origin may.bits may.x)
 source_known laws {device} {framed} {a} {s} {first} {len} {width} {origin} under from_so may =
     let pc = register_of s 0 in
     let by = moved laws may R4 in
     let v = source_number s may.counted width origin may.bits may.x in
     let is = laws.doubles.left device framed a s first len Mov width origin (destination.Register R4) by.outcome under from_so tt tt by.may in
     let after = (double_worked device framed a pc len Mov width origin (destination.Register R4)).after in
-    let has : Has 65536 (word_of after 4).set (get_or by.may.left.registers 4 0) = (is.parts.words 4 (omega arith) (omega arith)).0 in
+    let under_first = option_map suspended_of first in
+    let (has, came) : HoldsOfWord under_first (word_of after 4) (get_or by.may.left.registers 4 0) = is.parts.words 4 (omega arith) (omega arith) in
     let same : get_or by.may.left.registers 4 0 ≡ v = ap (λ (left : Left). get_or left.registers 4 0) by.left_is
     ∙ moved_number laws device s len may.counted width origin v under.holds.state.registers in
     let there : Has 65536 (word_of after 4).set v = subst (Has 65536 (word_of after 4).set) same has in
-    let normal = moved_normal laws pc len width origin under.device_so under.form from_so in
+    let normal = (moved_word_form laws pc len width origin under.device_so under.form from_so).normal in
     let agrees : Agrees (known_bits 16 (word_of after 4).set) v = laws.known.bits.known 16 v (word_of after 4).set normal there in
     let Bits : Form → Type 0 = λ counted. AgreesBelow (places width) (lowest_bits width (operand_word device a counted width (source_reach pc a counted origin))) v in
     let counted = counter_set pc len origin (destination.Register R4) in
     let word = operand_word device a counted width (source_reach pc a counted origin) in
+    let left_word = moved_word laws pc len width origin under.device_so under.form from_so in
     let set_is : (word_of after 4).set ≡ (written_word width (values_of width word) None).set =
-    ap (λ (w : Word). w.set) (moved_word laws pc len width origin under.device_so under.form from_so) ∙ written_set width word word.entry in
+    ap (λ (w : Word). w.set) left_word ∙ written_set width word word.entry in
+    let From : Form → Type 0 = λ counted. IsFromEntry under_first (operand_word device a counted width (source_reach pc a counted origin)).entry v in
     record {
       agrees = subst Bits (counter_one laws pc len origin R4)
           (subst (λ set. AgreesBelow (places width) (take 9 (known_bits 16 set)) v) set_is (taken_agrees width (known_bits 16 (word_of after 4).set) v agrees));
+      from = λ e. subst From (counter_one laws pc len origin R4)
+          (subst (λ entry. IsFromEntry under_first entry v) (ap (λ (w : Word). w.entry) left_word ∙ written_entry width word word.entry e)
+          (subst (IsFromEntry under_first (word_of after 4).entry) same came));
       below = laws.known.sets.below 65536 v (word_of after 4).set normal there;
     }

@@ -31,7 +31,7 @@ use Rattle.msp430_state.specs.Known.{Known}
 use Rattle.msp430_alu.specs.Formats.{AreShown, IsLeft, IsUnder}
 use Rattle.msp430_status.specs.Status.{free_bits, single_bits, single_status_worked}
 use Rattle.msp430_status.proofs.BitLemmas.{free_agree, length_free}
-use Rattle.msp430_status.proofs.Parts.{Writes, freed, status_left, unflagged, written_is}
+use Rattle.msp430_status.proofs.Parts.{Writes, bits_alone, freed, status_left, unflagged, written_is}
 use Rattle.msp430_status.proofs.Swapped.{length_swapped, swapped_agree}
 
 -- what a result that sets no flags leaves
@@ -42,35 +42,42 @@ written_left device ram registers width v made_so left same is =
     is ∙ ap (λ (m : Made). with_status m.1 (put device registers ram width (place.InRegister Sr) m.0)) (sym same) ∙ unflagged registers ram (v % 512)
 
 -- a value that is left as it is
-value_written : (device : Device) (ram registers : List ℕ) (width : Width) (bits x : ℕ) (made_so : Made) (left : Left)
+value_written : (device : Device) (first : Option ChipState) (ram registers : List ℕ) (width : Width) (bits x : ℕ) (made_so : Made) (left : Left)
     → ◌≡◌ {A = Option Made} (Some (with_free_bits width (place.InRegister Sr) bits x, None)) (Some made_so)
-    → left ≡ with_status made_so.1 (put device registers ram width (place.InRegister Sr) made_so.0) → Writes registers ram free_bits left
-value_written device ram registers width bits x made_so left may left_is =
+    → left ≡ with_status made_so.1 (put device registers ram width (place.InRegister Sr) made_so.0) → Writes first registers ram (bits_alone free_bits) left
+value_written device first ram registers width bits x made_so left may left_is =
     let n = with_free_bits width (place.InRegister Sr) bits x in
-    record { status = n % 512; agrees = free_agree (n % 512) (omega arith); left_is = written_left device ram registers width n made_so left (same_Some (n, None) made_so may) left_is }
+    record {
+      status = n % 512;
+      holds = record { bits = free_agree (n % 512) (omega arith); entry = tt };
+      left_is = written_left device ram registers width n made_so left (same_Some (n, None) made_so may) left_is;
+    }
 
 -- the bits that are known of SR, whatever its bits 9 to 15 are
-single_written : {device : Device} {ram registers : List ℕ} (done : SingleOperation) (width : Width) (a : Known) (sr bits x : ℕ) {carry : ℕ} {left : Left}
+single_written : {device : Device} {first : Option ChipState} {ram registers : List ℕ} (done : SingleOperation) (width : Width) (a : Known) (sr bits x : ℕ) {carry : ℕ} {left : Left}
     → HasWidth done width
     → Agrees a.status.bits sr → sr < 512 → bits < 128 → x ≡ sr % modulus width
     → MayLeaveSingle device ram registers done width (place.InRegister Sr) (with_free_bits width (place.InRegister Sr) bits x) carry left
-    → Writes registers ram (single_bits done a.status.bits) left
+    → Writes first registers ram (bits_alone (single_bits done a.status.bits)) left
 single_written operation.Swpb Words a sr bits x fits agrees small few is (FreeStatus free leaves) = absurd (cc)
 single_written {device} {ram} {registers} operation.Swpb Words a sr bits x {left} fits agrees small few is (OfResult other made_so may left_is) =
     let n = exchanged 256 (x + 512 * bits) in
     let same : x ≡ sr = omega (arith, is, small) in
     record {
       status = n % 512;
-      agrees = subst (λ y. Agrees (single_bits operation.Swpb a.status.bits) (exchanged 256 (y + 512 * bits) % 512)) (sym same)
-          (swapped_agree a.status.bits sr bits agrees small few);
+      holds = record {
+        bits = subst (λ y. Agrees (single_bits operation.Swpb a.status.bits) (exchanged 256 (y + 512 * bits) % 512)) (sym same)
+            (swapped_agree a.status.bits sr bits agrees small few);
+        entry = tt;
+      };
       left_is = written_left device ram registers Words n made_so left (same_Some (n, None) made_so may) left_is;
     }
 single_written operation.Swpb Byte a sr bits x fits agrees small few is leaves = absurd fits
 single_written done width a sr bits x fits agrees small few is (FreeStatus free leaves) = freed free_bits free_agree leaves
-single_written {device} {ram} {registers} operation.Push width a sr bits x {left} fits agrees small few is (OfResult other made_so may left_is) =
-    value_written device ram registers width bits x made_so left may left_is
-single_written {device} {ram} {registers} operation.Call width a sr bits x {left} fits agrees small few is (OfResult other made_so may left_is) =
-    value_written device ram registers width bits x made_so left may left_is
+single_written {device} {first} {ram} {registers} operation.Push width a sr bits x {left} fits agrees small few is (OfResult other made_so may left_is) =
+    value_written device first ram registers width bits x made_so left may left_is
+single_written {device} {first} {ram} {registers} operation.Call width a sr bits x {left} fits agrees small few is (OfResult other made_so may left_is) =
+    value_written device first ram registers width bits x made_so left may left_is
 single_written done width a sr bits x fits agrees small few is (OfResult other made_so may left_is) = absurd (cc)
 
 pub single_status_law : ((m v : ℕ) → v < m → IsNormal m (single v) × Has m (single v) v)

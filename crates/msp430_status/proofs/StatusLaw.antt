@@ -1,15 +1,18 @@
 -- The law of instructions with two operands and the destination SR.
-use Rattle.std.proofs.Common.{◌≡◌, ℕ, ◌+◌, ◌-◌, ◌*◌, ◌%◌, ◌<◌, ◌++◌, ◌&&◌, Bool, true, false, Option, None, List, [], length, get_or, refl, sym, ap, ◌∙◌, subst, inl, inr, arith, get_or-set_same, get_or-set_other}
+use Rattle.std.proofs.Common.{◌≡◌, ℕ, ◌+◌, ◌*◌, ◌%◌, ◌<◌, ◌++◌, ◌&&◌, Bool, true, false, Option, None, Some, List, [], length, get_or, refl, sym, ap, ◌∙◌, subst, inl, inr, arith, get_or-set_same, get_or-set_other}
 use Rattle.std.specs.Prelude.{bit_and, bit_or}
+use Rattle.std.specs.Option.{option_map}
 use Rattle.std.proofs.lemmas.Bool.{and_parts, cases_Bool, cond_both, cond-false, cond-true, false≢true}
 use Rattle.std.proofs.lemmas.List.{length-set, length-take-le, append-nil, set-get_or}
 use Rattle.std.proofs.lemmas.List.FromFn.{length-map-range_with_len}
 use Rattle.std.proofs.lemmas.Option.{same_Some}
+use Rattle.entry_value.specs.declared.word.Entry.{Entry}
 use Rattle.entry_value.specs.declared.word.Word.{Word}
+use Rattle.entry_value.specs.Words.{HoldsOfWord, IsFromEntry, Suspended}
+use Rattle.irq_frames.specs.KnownLaws.{KnownLaws}
 use Rattle.value_set.specs.Form.{IsNormal}
 use Rattle.value_set.specs.Remainders.{HasRemainder}
 use Rattle.value_set.specs.Summing.{single}
-use Rattle.value_bits.specs.declared.tri.Tri.{Tri}
 use Rattle.value_bits.specs.Bits.{Agrees, known_bit, known_bits}
 use Rattle.msp430_decode.specs.declared.instr.Destination.TheVariants as destination
 use Rattle.msp430_decode.specs.declared.instr.Operation.{Operation}
@@ -36,17 +39,20 @@ use Rattle.msp430_chip.specs.State.{even, register_of}
 use Rattle.msp430_chip.specs.Step.{Left, double_accesses, put_if, with_status}
 use Rattle.msp430_results.specs.Words.{values_of, written_word}
 use Rattle.msp430_state.specs.FormFacts.{no_status_relation}
-use Rattle.msp430_state.specs.Forms.{IsKnown}
-use Rattle.msp430_state.specs.Holding.{HoldsOfParts}
+use Rattle.msp430_state.specs.declared.status.Status.{Status as StatusBits}
+use Rattle.msp430_state.specs.Forms.{IsKnown, IsRelation, IsStatusRelation}
+use Rattle.msp430_state.specs.Holding.{HoldsOfParts, suspended_of}
 use Rattle.msp430_state.specs.Known.{Known}
 use Rattle.msp430_alu.specs.declared.reach.Reach.TheVariants.{InRegister}
-use Rattle.msp430_alu.specs.Formats.{AreShown, IsLeft, IsUnder, access_if, access_of, counter_set, double_worked}
+use Rattle.msp430_alu.specs.Formats.{AreShown, IsLeft, IsUnder, access_if, access_of, constant_of, counter_set, double_worked, relation_of}
 use Rattle.msp430_alu.specs.Memory.{IsDevice}
 use Rattle.msp430_alu.specs.Operands.{grown_known, operand_word, source_reach}
-use Rattle.msp430_status.specs.Status.{free_bits, lowest_bits, moved_bits, source_bits, status_bits, status_worked}
+use Rattle.msp430_alu.specs.Registers.{status_set}
+use Rattle.msp430_alu.specs.RelationFacts.{clear_related, constant_below, constant_value_is, or_related, own_relation, relation_form, status_related, status_relation_form}
+use Rattle.msp430_status.specs.Status.{free_bits, lowest_bits, moved_bits, moved_relation, moved_status, source_bits, status_behind, status_worked}
 use Rattle.msp430_status.proofs.BitLemmas.{AgreesBelow, free_agree, held_agrees, length_free, length_moved, moved_agrees, number_behind, places}
-use Rattle.msp430_status.proofs.Moves.{StatusLaws, registers_behind, source_number, behind_length, counter_one, grown_form, grown_parts, source_known}
-use Rattle.msp430_status.proofs.Parts.{Writes, freed, status_left, unflagged, written_is}
+use Rattle.msp430_status.proofs.Moves.{StatusLaws, registers_behind, source_number, behind_length, counter_one, grown_form, grown_parts, source_known, source_relation}
+use Rattle.msp430_status.proofs.Parts.{Writes, bits_alone, freed, status_left, unflagged, written_is}
 
 source_small : (laws : StatusLaws) {device : Device} {framed : Bool} {a : Known} {s : ChipState} {first : Option ChipState} {len : ℕ} {done : Operation} (width : Width)
     {origin : Source} {outcome : Outcome ChipState}
@@ -164,6 +170,15 @@ byte_held : (width : Width) (bits y sr : ℕ) → y ≡ sr % modulus width → w
 byte_held Words bits y sr is e = absurd (cc)
 byte_held Byte bits y sr is e = omega (arith, is)
 
+-- what SR holds of the width, where it is read
+held_so : (laws : StatusLaws) {device : Device} {s : ChipState} {len : ℕ} {done : Operation} {width : Width} {origin : Source} {outcome : Outcome ChipState}
+    → IsSource origin → (may : MayDouble device s len done width origin (destination.Register Sr) outcome)
+    → reads_destination done ≡ true → may.y ≡ register_of s 2 % modulus width
+held_so laws {device} {s} {done} {width} {origin} from_so may e =
+    let kept : get_or (behind_source s may.counted width origin) 2 0 ≡ register_of s 2 =
+    grown_status laws (at_source s may.counted) width origin from_so ∙ get_or-set_other s.registers 0 2 may.counted 0 (λ e. omega (arith, e)) in
+    held_number (reads_destination done) device s.ram (behind_source s may.counted width origin) width may.y may.held e ∙ ap (λ n. n % modulus width) kept
+
 bits_agree : (laws : StatusLaws) {device : Device} {framed : Bool} {a : Known} {s : ChipState} {first : Option ChipState} {len : ℕ} {done : Operation} {width : Width}
     {origin : Source} {outcome : Outcome ChipState}
     → sets_flags done ≡ false → IsUnder device framed a s first → IsSource origin
@@ -179,25 +194,60 @@ bits_agree laws {device} {a} {s} {len} {done} {width} {origin} none under from_s
     let y = with_free_bits width (place.InRegister Sr) may.bits may.y in
     let known = source_known laws under from_so may in
     let sr = register_of s 2 in
-    let kept : get_or (behind_source s may.counted width origin) 2 0 ≡ sr =
-    grown_status laws (at_source s may.counted) width origin from_so ∙ get_or-set_other s.registers 0 2 may.counted 0 (λ e. omega (arith, e)) in
-    let held : reads_destination done ≡ true → may.y ≡ sr % modulus width =
-    λ e. held_number (reads_destination done) device s.ram (behind_source s may.counted width origin) width may.y may.held e ∙ ap (λ n. n % modulus width) kept in
+    let held = held_so laws from_so may in
     let agrees = under.holds.parts.status.bits in
     moved_agrees done width (source_bits a width origin word) a.status.bits x y none (source_length a width origin word under.form.bits) under.form.bits
     (source_small laws width under from_so may) (source_agrees a s may.counted width origin device word may.bits may.x agrees may.reads known.agrees)
     (λ e. held_agrees width a.status.bits y sr (bits_above width may.bits) agrees (free_above width may.bits may.y ∙ ap (λ n. n + 512 * bits_above width may.bits) (held e)) (no_bits_above width may.bits))
     (λ e. byte_held width may.bits may.y sr (held e))
 
+-- THE RELATION
+
+-- what the result came from, by a source x and what SR held, y
+moved_from : (laws : KnownLaws) (first : Option Suspended) (done : Operation) (constant : Option ℕ) (one other : Option Entry) (x y : ℕ)
+    → sets_flags done ≡ false → ((m : ℕ) → constant ≡ Some m → x ≡ m)
+    → IsFromEntry first one x → (reads_destination done ≡ true → IsFromEntry first other y)
+    → IsFromEntry first (relation_of done constant one other) (number_behind done x y (complement Words x))
+moved_from laws first operation.Mov constant one other x y none is h k = h
+moved_from laws first operation.Bic constant one other x y none is h k = clear_related laws first constant other x y is (k refl)
+moved_from laws first operation.Bis constant one other x y none is h k = or_related laws first constant other x y is (k refl)
+moved_from laws first done constant one other x y none is h k = absurd (cc)
+
+relation_agrees : (laws : StatusLaws) {device : Device} {framed : Bool} {a : Known} {s : ChipState} {first : Option ChipState} {len : ℕ} {done : Operation} (width : Width)
+    {origin : Source} {outcome : Outcome ChipState}
+    → sets_flags done ≡ false → IsUnder device framed a s first → IsSource origin
+    → (may : MayDouble device s len done width origin (destination.Register Sr) outcome)
+    → let counted = single ((register_of s 0 + len) % 65536) in let word = operand_word device a counted width (source_reach (register_of s 0) a counted origin) in
+    let x = source_number s may.counted width origin may.bits may.x in let y = with_free_bits width (place.InRegister Sr) may.bits may.y in
+    IsFromEntry (option_map suspended_of first) (moved_relation done width (constant_of origin) word.entry a.status.entry) (number_behind done x y (complement width x) % 512)
+relation_agrees laws Byte none under from_so may = tt
+relation_agrees laws {device} {framed} {a} {s} {first} {len} {done} Words {origin} none under from_so may =
+    let pc = register_of s 0 in
+    let counted = single ((pc + len) % 65536) in
+    let word = operand_word device a counted Words (source_reach pc a counted origin) in
+    let x = source_number s may.counted Words origin may.bits may.x in
+    let y = with_free_bits Words (place.InRegister Sr) may.bits may.y in
+    let sr = register_of s 2 in
+    let small : sr < 512 = under.holds.state.status in
+    let held : HoldsOfWord (option_map suspended_of first) (record { set = status_set a.status; entry = a.status.entry }) (sr + 512 * may.bits) =
+    laws.words.status framed first a.status sr may.bits under.form.bits under.form.status small may.free.below under.holds.parts.status in
+    let whole : reads_destination done ≡ true → sr + 512 * may.bits ≡ y =
+    λ e. let is = held_so laws from_so may e in omega (arith, is, small) in
+    let From = IsFromEntry (option_map suspended_of first) in
+    status_related first (relation_of done (constant_of origin) word.entry a.status.entry) (number_behind done x y (complement Words x))
+    (moved_from laws.known (option_map suspended_of first) done (constant_of origin) word.entry a.status.entry x y none
+    (λ m constant. constant_value_is device s.ram (at_source s may.counted) pc origin may.x may.bits m from_so constant may.reads)
+    ((source_known laws under from_so may).from refl) (λ e. subst (From a.status.entry) (whole e) held.1))
+
 -- THE LAW
 
-kept_bits : (done : Operation) (width : Width) (given held : List Tri) → sets_flags done ≡ false
-    → moved_bits done width given held ≡ status_bits done width given held
-kept_bits done width given held none = sym (cond-false (sets_flags done) free_bits (moved_bits done width given held) none)
+kept_status : (a : Known) (done : Operation) (width : Width) (origin : Source) (word : Word) → sets_flags done ≡ false
+    → moved_status a done width origin word ≡ status_behind a done width origin word
+kept_status a done width origin word none = sym (cond-false (sets_flags done) (bits_alone free_bits) (moved_status a done width origin word) none)
 
-any_bits : (done : Operation) (width : Width) (given held : List Tri) → sets_flags done ≡ true
-    → free_bits ≡ status_bits done width given held
-any_bits done width given held some = sym (cond-true (sets_flags done) free_bits (moved_bits done width given held) some)
+any_status : (a : Known) (done : Operation) (width : Width) (origin : Source) (word : Word) → sets_flags done ≡ true
+    → bits_alone free_bits ≡ status_behind a done width origin word
+any_status a done width origin word some = sym (cond-true (sets_flags done) (bits_alone free_bits) (moved_status a done width origin word) some)
 
 -- SR is free, where the operation sets flags
 status_freed : {device : Device} {ram registers : List ℕ} {done : Operation} {width : Width} {x y carry : ℕ} {left : Left}
@@ -206,24 +256,24 @@ status_freed : {device : Device} {ram registers : List ℕ} {done : Operation} {
 status_freed some (FreeStatus free freed) = freed
 status_freed some (OfResult other made_so may is) = absurd (false≢true (sym other ∙ ap (λ b. b && true) some))
 
-bits_written : (laws : StatusLaws) {device : Device} {framed : Bool} {a : Known} {s : ChipState} {first : Option ChipState} {len : ℕ} {done : Operation} {width : Width}
+status_is_written : (laws : StatusLaws) {device : Device} {framed : Bool} {a : Known} {s : ChipState} {first : Option ChipState} {len : ℕ} {done : Operation} {width : Width}
     {origin : Source} {outcome : Outcome ChipState}
     → IsUnder device framed a s first → IsSource origin → (may : MayDouble device s len done width origin (destination.Register Sr) outcome)
-    → Writes (registers_behind s len may.counted width origin) s.ram
-    (status_bits done width (source_bits a width origin (operand_word device a (single ((register_of s 0 + len) % 65536)) width (source_reach (register_of s 0) a (single ((register_of s 0 + len) % 65536)) origin))) a.status.bits) may.left
-bits_written laws {device} {a} {s} {len} {done} {width} {origin} under from_so may =
+    → let counted = single ((register_of s 0 + len) % 65536) in let word = operand_word device a counted width (source_reach (register_of s 0) a counted origin) in
+    Writes first (registers_behind s len may.counted width origin) s.ram (status_behind a done width origin word) may.left
+status_is_written laws {device} {a} {s} {first} {len} {done} {width} {origin} under from_so may =
     let pc = register_of s 0 in
     let counted = single ((pc + len) % 65536) in
-    let given = source_bits a width origin (operand_word device a counted width (source_reach pc a counted origin)) in
+    let word = operand_word device a counted width (source_reach pc a counted origin) in
     let registers = registers_behind s len may.counted width origin in
     let x = source_number s may.counted width origin may.bits may.x in
     let y = with_free_bits width (place.InRegister Sr) may.bits may.y in
     elim (cases_Bool (sets_flags done)) [
-      | inl some ↦ subst (λ bits. Writes registers s.ram bits may.left) (any_bits done width given a.status.bits some)
+      | inl some ↦ subst (λ known. Writes first registers s.ram known may.left) (any_status a done width origin word some)
           (freed free_bits free_agree (status_freed some may.leaves))
-      | inr none ↦ subst (λ bits. Writes registers s.ram bits may.left) (kept_bits done width given a.status.bits none) (record {
+      | inr none ↦ subst (λ known. Writes first registers s.ram known may.left) (kept_status a done width origin word none) (record {
         status = number_behind done x y (complement width x) % 512;
-        agrees = bits_agree laws none under from_so may;
+        holds = record { bits = bits_agree laws none under from_so may; entry = relation_agrees laws width none under from_so may };
         left_is = left_is done none may.leaves;
       })
     ]
@@ -239,14 +289,13 @@ status_law laws device framed a s first len done width origin outcome under from
     let next = (pc + len) % 65536 in
     let counted = single next in
     let grown_so = grown_known a counted width origin in
-    let bits = status_bits done width (source_bits a width origin (operand_word device a counted width (source_reach pc a counted origin))) a.status.bits in
     let registers = registers_behind s len may.counted width origin in
     let long : length registers ≡ 16 = behind_length laws s len may.counted width origin ∙ under.holds.state.registers in
     let grown_long : 0 < length (behind_source s may.counted width origin) = omega (arith, long, length-set (behind_source s may.counted width origin) 0 next) in
     let counter : get_or registers 0 0 ≡ next = get_or-set_same (behind_source s may.counted width origin) 0 next 0 grown_long in
     let holds : HoldsOfParts device grown_so first registers s.ram =
     subst (λ list. HoldsOfParts device grown_so first list s.ram) (set-get_or registers 2 0) (grown_parts laws under from_so may) in
-    written_is laws.known.sets.single next long (omega arith) counter (λ r low. refl) holds (bits_written laws under from_so may)
+    written_is laws.known.sets.single next long (omega arith) counter (λ r low. refl) holds (status_is_written laws under from_so may)
 
 no_access : (device : Device) (there : Bool) (pc : ℕ) (write : Bool) (width : Width) (register : Register)
     → access_if there device pc write width (InRegister register) ≡ []
@@ -273,10 +322,26 @@ status_shown laws device framed a s first len done width origin outcome under fr
     let alone : AreShown reads singles = subst (λ list. AreShown list singles) (append-nil (reads ++ []) ∙ append-nil reads) second_so in
     subst (λ set. AreShown (access_of device pc false width (source_reach pc a set origin)) singles) (counter_one laws pc len origin Sr) alone
 
-length_status : (done : Operation) (width : Width) (given held : List Tri) → length given ≡ 9 → length held ≡ 9
-    → length (status_bits done width given held) ≡ 9
-length_status done width given held long nine =
-    cond_both (sets_flags done) free_bits (moved_bits done width given held) (λ bits. length bits ≡ 9) (λ e. length_free) (λ e. length_moved done width given held long nine)
+behind_length_form : (a : Known) (done : Operation) (width : Width) (origin : Source) (word : Word) → length a.status.bits ≡ 9
+    → length (status_behind a done width origin word).bits ≡ 9
+behind_length_form a done width origin word nine =
+    cond_both (sets_flags done) (bits_alone free_bits) (moved_status a done width origin word) (λ (known : StatusBits). length known.bits ≡ 9) (λ e. length_free)
+    (λ e. length_moved done width (source_bits a width origin word) a.status.bits (source_length a width origin word nine) nine)
+
+moved_form : (framed : Bool) (done : Operation) (width : Width) (origin : Source) (one other : Option Entry) → IsSource origin
+    → (width ≡ Words → IsRelation framed one) → IsStatusRelation framed other
+    → IsStatusRelation framed (moved_relation done width (constant_of origin) one other)
+moved_form framed done Byte origin one other is h k = no_status_relation framed
+moved_form framed done Words origin one other is h k =
+    status_relation_form framed (relation_of done (constant_of origin) one other)
+    (relation_form framed done (constant_of origin) one other (λ m e. constant_below origin m is e) (h refl) (own_relation framed other k))
+
+behind_form : (framed : Bool) (a : Known) (done : Operation) (width : Width) (origin : Source) (word : Word) → IsSource origin
+    → (width ≡ Words → IsRelation framed word.entry) → IsStatusRelation framed a.status.entry
+    → IsStatusRelation framed (status_behind a done width origin word).entry
+behind_form framed a done width origin word is h k =
+    cond_both (sets_flags done) (bits_alone free_bits) (moved_status a done width origin word) (λ (known : StatusBits). IsStatusRelation framed known.entry)
+    (λ e. no_status_relation framed) (λ e. moved_form framed done width origin word.entry a.status.entry is h k)
 
 pub status_form : (laws : StatusLaws) (device : Device) (framed : Bool) (a : Known) (pc len : ℕ) (done : Operation) (width : Width) (origin : Source)
     → IsDevice device
@@ -287,8 +352,9 @@ status_form laws device framed a pc len done width origin is form from_so =
     let counted = single ((pc + len) % 65536) in
     let word = operand_word device a counted width (source_reach pc a counted origin) in
     let grown_is = grown_form laws pc len width origin is form from_so in
-    let bits = length_status done width (source_bits a width origin word) a.status.bits (source_length a width origin word form.bits) form.bits in
-    assumption (bits, no_status_relation framed, grown_is)
+    let bits = behind_length_form a done width origin word form.bits in
+    let entry = behind_form framed a done width origin word from_so (source_relation laws pc len width origin is form from_so) form.status in
+    assumption (bits, entry, grown_is)
 
 pub status_next : (laws : StatusLaws) (device : Device) (framed : Bool) (a : Known) (pc len : ℕ) (done : Operation) (width : Width) (origin : Source)
     → IsNormal 65536 (status_worked device framed a pc len done width origin).next

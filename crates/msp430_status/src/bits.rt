@@ -2,7 +2,6 @@
 
 ghost use Rattle.std.specs.Prelude.{◌≡◌};
 ghost use Rattle.value_bits.specs.Bits as known;
-ghost use Rattle.msp430_chip.specs.Arithmetic as arithmetic;
 ghost use Rattle.value_bits.specs.Pointwise.{each_with};
 ghost use Rattle.msp430_status.specs.Status as status;
 
@@ -54,8 +53,13 @@ fn bits_behind(operation: Operation, source: &[Tri; 9], held: &[Tri; 9]) -> [Tri
     bits
 }
 
-/// The bits of the result of MOV, BIC or BIS. A byte result has bit 8 clear.
-fn moved_bits(operation: Operation, width: Width, source: &[Tri; 9], held: &[Tri; 9]) -> [Tri; 9]
+/// The bits of the result of MOV, BIC or BIS, by those of the source and those that SR held. A byte result has bit 8 clear.
+pub(crate) fn moved_bits(
+    operation: Operation,
+    width: Width,
+    source: &[Tri; 9],
+    held: &[Tri; 9],
+) -> [Tri; 9]
     ensures { result ≡ status.moved_bits operation width source.now held.now }
 {
     let mut bits = bits_behind(operation, source, held);
@@ -63,29 +67,6 @@ fn moved_bits(operation: Operation, width: Width, source: &[Tri; 9], held: &[Tri
         bits[8] = Tri::Zero;
     }
     bits
-}
-
-/// Whether an operation sets flags.
-fn sets_flags(operation: Operation) -> bool
-    ensures { result ≡ arithmetic.sets_flags operation }
-{
-    !matches!(operation, Operation::Mov | Operation::Bic | Operation::Bis)
-}
-
-/// What is known of the bits of SR behind an instruction that has it as its destination, by those of the source and those
-/// that SR held. Behind one that sets flags nothing is known.
-pub fn status_bits(
-    operation: Operation,
-    width: Width,
-    source: &[Tri; 9],
-    held: &[Tri; 9],
-) -> [Tri; 9]
-    ensures { result ≡ status.status_bits operation width source.now held.now }
-{
-    if sets_flags(operation) {
-        return [Tri::Either; 9];
-    }
-    moved_bits(operation, width, source, held)
 }
 
 /// What is known of the bits of SR behind SWPB: V comes to bit 0, and C to bit 8.

@@ -3,7 +3,7 @@
 ghost use Rattle.msp430_status.specs.Laws.{SingleStatusesHold, StatusesHold};
 
 use irq_frames::known_laws;
-use msp430_alu::doubles_hold;
+use msp430_alu::{doubles_hold, memory_laws};
 use msp430_chip::place_laws;
 
 /// The law of instructions with two operands that write SR. A state that stands under what is known may only lead to one
@@ -12,7 +12,7 @@ use msp430_chip::place_laws;
 pub fn statuses_hold()
     ensures { StatusesHold }
 {
-    known_laws();
+    memory_laws();
     doubles_hold();
     place_laws();
 }

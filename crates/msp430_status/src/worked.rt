@@ -2,12 +2,15 @@
 
 ghost use Rattle.std.specs.Prelude.{◌≡◌, false, IfOk};
 ghost use Rattle.msp430_chip.specs.Memory.{HasRam};
+ghost use Rattle.msp430_alu.specs.Formats.{constant_of};
 ghost use Rattle.msp430_status.specs.Status as the_status;
 
-use crate::bits::{single_bits, status_bits};
+use crate::bits::{moved_bits, single_bits};
 use call_context::Sequence;
-use entry_value::{Cells, Word};
-use msp430_alu::{Here, Worked, grow, known_operand, show, source_reach};
+use entry_value::{Cells, Entry, Word};
+use msp430_alu::{
+    Here, Worked, grow, known_operand, relation_of, show, source_reach, status_relation,
+};
 use msp430_decode::{Operation, Register, SingleOperation, Source, Width};
 use msp430_results::kept_word;
 use msp430_state::{State, Status};
@@ -36,11 +39,67 @@ fn source_bits<M: Cells>(state: &State<M>, width: Width, source: Source, word: &
     }
 }
 
-/// Gives SR these bits. Its relation goes, and so does the fact.
-fn put_status<M: Cells>(state: &mut State<M>, bits: [Tri; 9])
-    ensures { state.new ≡ the_status.with_status_bits state.old bits }
+/// What the result of MOV, BIC or BIS came from, where that is SR. A byte tells nothing.
+fn moved_relation(
+    operation: Operation,
+    width: Width,
+    source: Source,
+    given: Option<Entry>,
+    held: Option<Entry>,
+) -> Option<Entry>
+    ensures { result ≡ the_status.moved_relation operation width (constant_of source) given held }
 {
-    state.status = Status { bits, entry: None };
+    match width {
+        Width::Word => status_relation(&relation_of(operation, source, given, held)),
+        Width::Byte => None,
+    }
+}
+
+/// What MOV, BIC or BIS makes of SR, by the word of the source.
+fn moved_status<M: Cells>(
+    state: &State<M>,
+    operation: Operation,
+    width: Width,
+    source: Source,
+    word: &Word,
+) -> Status
+    ensures { result ≡ the_status.moved_status state.now operation width source word.now }
+{
+    let held = &state.status;
+    let given = source_bits(state, width, source, word);
+    Status {
+        bits: moved_bits(operation, width, &given, &held.bits),
+        entry: moved_relation(operation, width, source, word.entry, held.entry),
+    }
+}
+
+/// What is known of SR behind an instruction that has it as its destination, by the word of the source. Behind one that sets
+/// flags nothing is known.
+fn status_behind<M: Cells>(
+    state: &State<M>,
+    operation: Operation,
+    width: Width,
+    source: Source,
+    word: &Word,
+) -> Status
+    ensures { result ≡ the_status.status_behind state.now operation width source word.now }
+{
+    match operation {
+        Operation::Mov | Operation::Bic | Operation::Bis => {
+            moved_status(state, operation, width, source, word)
+        }
+        _ => Status {
+            bits: [Tri::Either; 9],
+            entry: None,
+        },
+    }
+}
+
+/// Writes SR. The fact goes.
+fn put_status<M: Cells>(state: &mut State<M>, status: Status)
+    ensures { state.new ≡ the_status.put_status state.old status }
+{
+    state.status = status;
     state.fact = None;
 }
 
@@ -62,13 +121,10 @@ pub fn status<M: Cells>(
     let counted = Vs16::one(here.behind());
     let from = source_reach(here.pc, state, &counted, source);
     let word = known_operand(here.device, state, &counted, width, &from);
-    let origin = source_bits(state, width, source, &word);
+    let behind = status_behind(state, operation, width, source, &word);
     let mut after = state.copy(alloc)?;
     grow(&mut after, &counted, width, source);
-    put_status(
-        &mut after,
-        status_bits(operation, width, &origin, &state.status.bits),
-    );
+    put_status(&mut after, behind);
     let mut accesses = Sequence::new(alloc);
     show(&mut accesses, here, false, width, &from)?;
     Ok(Worked {
@@ -92,7 +148,8 @@ pub fn single_status<M: Cells>(
 {
     let state = here.state;
     let mut after = state.copy(alloc)?;
-    put_status(&mut after, single_bits(operation, &state.status.bits));
+    let bits = single_bits(operation, &state.status.bits);
+    put_status(&mut after, Status { bits, entry: None });
     Ok(Worked {
         after,
         next: Vs16::one(here.behind()),

@@ -1,4 +1,5 @@
 use Rattle.mcs51_branch.proofs.Ways.{condition_way, condition_way_form, comparison_way, comparison_way_form, byte_way, lowered_way, lowered_form}
+use Rattle.mcs51_branch.proofs.PlaceWays.{with_set_form, with_set_under}
 use Rattle.mcs51_branch.proofs.laws.jumps_hold.Goals as goal
 
 pub returns : goal.returns
@@ -12,4 +13,6 @@ returns c =
       with_byte = byte_way laws;
       lowered = lowered_way laws;
       lowered_form = lowered_form laws;
+      place = with_set_under laws;
+      place_form = with_set_form laws;
     }

@@ -5,7 +5,8 @@ use Rattle.msp430_status.proofs.laws.statuses_hold.Goals as goal
 pub returns : goal.returns
 returns c =
     let laws : StatusLaws = record {
-      known = c.known_laws.ensures;
+      known = c.memory_laws.ensures.known;
+      words = c.memory_laws.ensures.words;
       doubles = c.doubles_hold.ensures;
       places = c.place_laws.ensures;
     } in
