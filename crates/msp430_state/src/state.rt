@@ -79,12 +79,7 @@ fn all_touched(alloc: Global, frame: &Frame, ram: RamRange) -> Result<Ranges, Me
 
 impl<M: Cells> State<M> {
     /// What is known where each bit is one value, SP is even, and all else is any.
-    fn of_bit(
-        alloc: Global,
-        bit: Tri,
-        ram: RamRange,
-        touched: Ranges,
-    ) -> Result<State<M>, Memory>
+    fn of_bit(alloc: Global, bit: Tri, ram: RamRange, touched: Ranges) -> Result<State<M>, Memory>
         requires { ram.lo ≤ ram.hi }
         ensures { IfOk result (λ state. state ≡ known.known_of bit ram.lo ram.hi touched) }
     {
