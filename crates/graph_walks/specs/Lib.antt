@@ -1,0 +1,10 @@
+pub mod Circles
+pub mod Components
+pub mod Graphs
+pub mod Greatest
+pub mod Legs
+pub mod Levels
+pub mod Reached
+pub mod Searches
+pub mod Turned
+pub mod Ways
