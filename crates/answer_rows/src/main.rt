@@ -10,6 +10,10 @@
 //! - `times COUNT`: how often the rows behind it are asked.
 //! - `listing AT:DIGITS,..` is a row: the answer is the list of an image of the MSP430 with these bytes alone, which perhaps no
 //!   reader takes. `at-once WORDS` is one too: the call by these words on the input has two workers work at once.
+//! - `reads COUNT STATUS WORDS`, `writes COUNT STATUS WORDS` and `fronts FIRST LAST STATUS WORDS` are tables as rows: a source
+//!   that fails at each of its calls gives ReadFault and nothing, a sink that fails at each of its calls WriteFault and the front
+//!   of the answer, and each front of the input of so many bytes this status and the answer. The streams go by the pieces that
+//!   `source` and `sink` say, or by single bytes.
 //! - A line that begins with the name of a status is a row, as `STATUS WORDS`: the call by these words on the input answers this
 //!   status and that answer.
 //!
@@ -17,6 +21,7 @@
 #![tactic(auto)]
 
 mod rows;
+mod tables;
 mod ways;
 mod workers;
 

@@ -26,13 +26,13 @@ enum Part {
 /// What the lines so far say.
 #[derive(Drop)]
 pub struct Rows {
-    input: String,
-    answer: String,
+    pub input: String,
+    pub answer: String,
     part: Part,
     times: u32,
     /// One for the source and one for the sink, where a row says them.
-    source: Option<Way>,
-    sink: Option<Way>,
+    pub source: Option<Way>,
+    pub sink: Option<Way>,
 }
 
 /// Whether the lines of a report that begin with E or M are these.
@@ -48,7 +48,7 @@ fn are_moves(report: &[u8], lines: &str) -> bool {
 }
 
 /// What a call by these words answers.
-fn status_of<R: Threads + Wait + AllocGlobal + Sync>(
+pub fn status_of<R: Threads + Wait + AllocGlobal + Sync>(
     rt: &R,
     words: &[String],
     source: &mut MemSource,
@@ -163,6 +163,9 @@ impl Rows {
         match word {
             "listing" => self.is_listing(rt.alloc(), rest),
             "at-once" => self.is_at_once(rt, rest),
+            "reads" => self.are_reads(rt, rest),
+            "writes" => self.are_writes(rt, rest),
+            "fronts" => self.are_fronts(rt, rest),
             _ => self.is_always_answered(rt, word, rest),
         }
     }
