@@ -1,8 +1,10 @@
 -- What is known in front of an instruction is in form, and a state from which a step keeps the promises stands under it.
 use Rattle.std.proofs.Common.{◌≡◌, ℕ, ◌+◌, ◌-◌, ◌%◌, ◌<◌, ◌≤◌, ◌==◌, Bool, true, Option, None, Some, Ok, List, [], ◌∷◌, refl, sym, ap, ◌∙◌, subst, arith}
-use Rattle.std.specs.Prelude.{is_some, if◌then◌else◌}
-use Rattle.std.proofs.lemmas.Bool.{cond-true}
+use Rattle.std.specs.Prelude.{◌&&◌, is_some, if◌then◌else◌}
+use Rattle.std.proofs.lemmas.Bool.{cond_both, cond-true}
 use Rattle.std.proofs.lemmas.List.Elements.{All-get_or}
+use Rattle.chip_numbers.specs.Single.{Single}
+use Rattle.choosing.specs.Outcome.Outcome.{Next, Wild as Leaves}
 use Rattle.irq_frames.specs.KnownLaws.{KnownLaws}
 use Rattle.value_set.specs.Form.{Has, IsNormal}
 use Rattle.value_set.specs.declared.form.Form.{Form}
@@ -13,6 +15,7 @@ use Rattle.msp430_decode.specs.declared.instr.Width.{Width}
 use Rattle.msp430_decode.specs.declared.instr.Width.TheVariants.{Word, Byte}
 use Rattle.msp430_chip.specs.declared.device.Device.{Device}
 use Rattle.msp430_chip.specs.declared.state.ChipState.{ChipState}
+use Rattle.msp430_chip.specs.declared.state.Wild.TheVariants.{NoInstr, Push, Store}
 use Rattle.msp430_chip.specs.Laws.{PlaceLaws}
 use Rattle.msp430_chip.specs.Leading.{MayRun}
 use Rattle.msp430_chip.specs.Memory.{size_of}
@@ -24,7 +27,7 @@ use Rattle.msp430_branch.specs.Cuts.{with_set}
 use Rattle.msp430_branch.specs.Laws.{CutsHold}
 use Rattle.msp430_alu.specs.Formats.{IsUnder}
 use Rattle.msp430_kept.specs.Front.{cut_by, cut_through, cut_to, first_in, behind_in, front, windows_in, with_cut}
-use Rattle.msp430_kept.specs.Keeping.{IsKept}
+use Rattle.msp430_kept.specs.Keeping.{IsKept, stands_in as allows}
 use Rattle.msp430_kept.specs.Laws.{FrontLaws}
 use Rattle.msp430_kept.specs.Sites.{pointer_of, site_at, site_found, site_of, spoken}
 use Rattle.msp430_kept.specs.declared.pointer.Pointer.{Pointer}
@@ -32,7 +35,8 @@ use Rattle.msp430_kept.proofs.Pointers.{general_pointer, instr_points}
 use Rattle.msp430_kept.proofs.Stores.{begins, stands_so}
 use Rattle.msp430_kept.proofs.Windows.{one_alone, points_in, stands_in}
 use Rattle.plain_lemmas.specs.Cases.{mapped}
-use Rattle.promises.specs.Keeping.{is_in_one, windows_at}
+use Rattle.promises.specs.Keeping.{is_in_one, is_store, keeps_at, keeps_windows, pc_of, windows_at}
+use Rattle.promises.specs.Spoken.{Spoken}
 use Rattle.promises.specs.declared.promise.Promise.{Promise}
 use Rattle.promises.specs.declared.promise.Window.{Window}
 use Rattle.promises.specs.declared.spoken.Site.TheVariants.{Nothing}
@@ -191,6 +195,23 @@ module _ (laws : KnownLaws) (places : PlaceLaws) (device : Device) (promises : L
         holds = cuts.set device device.ram.lo device.ram.hi framed a s first its.pointer.register found.1 under.form general.0 general.1 (in_cut found its) under.holds;
       }))
 
+-- WITHOUT PROMISES
+
+none_at : (spoken_so : Spoken) (pc : ℕ) → windows_at spoken_so [] pc ≡ None
+none_at spoken_so pc = cond_both (is_store (spoken_so.at pc)) None None (λ (windows : Option (List Window)). windows ≡ None) (λ _. refl) (λ _. refl)
+
+none_keep : (spoken_so : Spoken) (items : List Single) (pc : Option ℕ) → keeps_at spoken_so [] pc items ≡ true
+none_keep spoken_so items None = refl
+none_keep spoken_so items (Some pc) =
+    subst (λ windows. (keeps_windows spoken_so.growth windows items && true) ≡ true) (sym (none_at spoken_so pc)) refl
+
+none_kept : (device : Device) (s : ChipState) (outcome : Outcome ChipState) → IsKept device [] s outcome
+none_kept device s (Next items t) = none_keep (spoken device.image) items (pc_of items)
+none_kept device s (Leaves (Store at)) =
+    subst (λ windows. allows windows (site_at device.image (register_of s 0)) (register_of s 1) at ≡ true) (sym (none_at (spoken device.image) (register_of s 0))) refl
+none_kept device s (Leaves (NoInstr refusal)) = tt
+none_kept device s (Leaves (Push at)) = tt
+
 -- THE LAWS
 
 pub fronts : KnownLaws → CutsHold → PlaceLaws → FrontLaws
@@ -199,4 +220,5 @@ fronts laws cuts places = record {
   same = front_same;
   holds = λ device promises framed a s first instr_so len outcome under is may is_kept.
       front_holds laws places device promises framed a s first instr_so len outcome under is may is_kept cuts;
+  none = none_kept;
 }

@@ -1,5 +1,5 @@
 -- What holds in front of an instruction. Proofs above take these laws from a record.
-use Rattle.std.specs.Prelude.{◌≡◌, ℕ, Bool, Ok, Option, List}
+use Rattle.std.specs.Prelude.{◌≡◌, ℕ, Bool, Ok, Option, List, []}
 use Rattle.msp430_decode.specs.declared.instr.Instr.{Instr}
 use Rattle.msp430_decode.specs.Decoding.{decoded}
 use Rattle.msp430_chip.specs.declared.device.Device.{Device}
@@ -15,7 +15,7 @@ use Rattle.msp430_kept.specs.Keeping.{IsKept}
 use Rattle.promises.specs.declared.promise.Promise.{Promise}
 
 -- What is known in front of an instruction is in form, with the same of SP, SR and interrupts. Where a step of the instruction
--- keeps the promises, the state in front of it stands under what is known there.
+-- keeps the promises, the state in front of it stands under what is known there. Without promises each step keeps them.
 pub record FrontLaws : Type 0 where
   pub form : (device : Device) (promises : List Promise) (lo hi : ℕ) (framed : Bool) (a : Known) (pc : ℕ) (instr : Instr)
       → IsKnown lo hi framed a → IsKnown lo hi framed (front device promises a pc instr)
@@ -26,3 +26,4 @@ pub record FrontLaws : Type 0 where
       → IsUnder device framed a s first → decoded device.image (register_of s 0) ≡ Ok (instr, len)
       → MayRun device s instr len outcome → IsKept device promises s outcome
       → IsUnder device framed (front device promises a (register_of s 0) instr) s first
+  pub none : (device : Device) (s : ChipState) (outcome : Outcome ChipState) → IsKept device [] s outcome
