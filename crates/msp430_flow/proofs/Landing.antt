@@ -1,10 +1,8 @@
 -- Where steps land, and the forms of what is posted.
-use Rattle.std.proofs.Common.{◌≡◌, ◌⊎◌, ℕ, ◌+◌, ◌-◌, ◌*◌, ◌/◌, ◌%◌, ◌<◌, ◌==◌, ◌++◌, nat_lt, Bool, true, false, Option, None, Some, List, [], ◌∷◌, length, slice_index, append_assoc, refl, sym, ap, ◌∙◌, subst, arith, Contains, IfSome}
-use Rattle.std.proofs.lemmas.Bool.{cond_both, cond-true, cond-false}
+use Rattle.std.proofs.Common.{◌≡◌, ℕ, ◌+◌, ◌-◌, ◌*◌, ◌/◌, ◌%◌, ◌<◌, ◌==◌, nat_lt, Bool, true, false, Option, None, Some, List, [], ◌∷◌, length, refl, sym, ap, ◌∙◌, subst, arith, IfSome}
+use Rattle.std.proofs.lemmas.Bool.{cond_both}
 use Rattle.call_context.specs.declared.node.Frame.{Frame}
-use Rattle.call_context.specs.declared.node.Node.{Node}
-use Rattle.call_context.specs.declared.node.Node.TheVariants.{At, Exit}
-use Rattle.call_context.specs.Showing.{AreShowing}
+use Rattle.call_context.specs.declared.node.Node.TheVariants.{At}
 use Rattle.chip_numbers.specs.Single.{Single}
 use Rattle.chip_numbers.specs.Single.Single.{Stack as Stood}
 use Rattle.chip_analysis.specs.declared.chip.Work.{Work}
@@ -37,7 +35,7 @@ use Rattle.msp430_decode.specs.declared.instr.Source.{Source}
 use Rattle.msp430_decode.specs.declared.instr.Source.TheVariants as source
 use Rattle.msp430_decode.specs.declared.instr.Width.{Width}
 use Rattle.msp430_decode.specs.declared.instr.SingleOperation.TheVariants.{Rrc, Swpb, Rra, Sxt, Push, Call}
-use Rattle.msp430_decode.specs.Table.{IsInstr, bytes_of, extension_words, length_of, target_of}
+use Rattle.msp430_decode.specs.Table.{IsInstr, extension_words, length_of, target_of}
 use Rattle.msp430_chip.specs.declared.device.Device.{Device}
 use Rattle.msp430_chip.specs.declared.state.ChipState.{ChipState}
 use Rattle.msp430_chip.specs.Interrupts.{entry, first_hit}
@@ -47,7 +45,7 @@ use Rattle.msp430_chip.specs.State.{allows_interrupts, register_of, IsChipState}
 use Rattle.msp430_chip.specs.Step.{Left}
 use Rattle.msp430_decode.specs.declared.instr.Width.TheVariants.{Word}
 use Rattle.msp430_state.specs.declared.fact.FlagFact.{FlagFact}
-use Rattle.msp430_state.specs.Forms.{HasChipForm, IsEvenWord, IsFact, IsKnown}
+use Rattle.msp430_state.specs.Forms.{IsEvenWord, IsFact, IsKnown}
 use Rattle.msp430_state.specs.Holding.{Covers, HoldsOf, HoldsOfParts, StandsIn}
 use Rattle.msp430_state.specs.Known.{Known, is_interrupt, known_joined}
 use Rattle.msp430_state.specs.Status.{common_bit}
@@ -57,9 +55,9 @@ use Rattle.msp430_branch.specs.Cuts.{known_cut}
 use Rattle.msp430_alu.specs.Formats.{IsUnder, Worked, push_worked, single_worked, double_worked}
 use Rattle.msp430_alu.specs.Memory.{IsDevice}
 use Rattle.msp430_entry.specs.declared.coming.Coming.{Coming}
-use Rattle.msp430_entry.specs.Entry.{ComesSo, comings_of, entry_items, entry_shows, frame_of_coming}
+use Rattle.msp430_entry.specs.Entry.{ComesSo, entry_shows}
 use Rattle.msp430_flow.specs.declared.setting.Setting.{Setting}
-use Rattle.msp430_flow.specs.Chip.{IsSetting, msp430_analysis, msp430_flow, onward_of}
+use Rattle.msp430_flow.specs.Chip.{IsSetting, in_front, msp430_analysis, msp430_flow, onward_of}
 use Rattle.msp430_flow.specs.Machine.{msp430_machine}
 use Rattle.msp430_flow.specs.Running.{fact_of, followed, gie_of, known_behind, single_or_status, ways_onward, worked}
 use Rattle.msp430_flow.proofs.RegisterViews.{OperandView, TargetView, operand_view, target_view}
@@ -278,10 +276,11 @@ parts_of : (items_so others : List Single) (t u : ChipState)
     → ◌≡◌ {A = Outcome ChipState} (Onward items_so t) (Onward others u) → (items_so ≡ others) × (t ≡ u)
 parts_of items_so others t u e = (cc, cc)
 
--- what a step of an instruction comes to at a location
+-- what a step of an instruction comes to at a location, by what is known there and in front of the instruction
 pub record AtLocation (setting : Setting) (frame : Frame) (a : Known) (s : ChipState) (first : Option ChipState) (instr_so : Instr) : Type 0 where
   pub setting_so : IsSetting setting
-  pub stands : IsUnder setting.device (is_interrupt frame) a s first
+  pub known : IsUnder setting.device (is_interrupt frame) a s first
+  pub stands : IsUnder setting.device (is_interrupt frame) (in_front setting a (register_of s 0) instr_so) s first
   pub in_frame : StandsIn frame first
   pub fits : IsInstr instr_so
   pub even : IsEvenWord (register_of s 0)
@@ -294,30 +293,33 @@ module _ (laws : Laws) (setting : Setting) (calls : List ℕ) (frame : Frame) (a
   abbrev LandsAt : List Single → ChipState → Type 0
   LandsAt = Lands (msp430_machine setting.device) (msp430_analysis setting) (Covers setting.device) (At (register_of s 0) calls frame) work_so s first
 
-  arrives : (outcome : Outcome ChipState) (run : IsRun setting.device (is_interrupt frame) a s first instr_so outcome)
+  abbrev front_so : Known
+  front_so = in_front setting a (register_of s 0) instr_so
+
+  arrives : (outcome : Outcome ChipState) (run : IsRun setting.device (is_interrupt frame) front_so s first instr_so outcome)
       → IsChipState setting.device (state_behind s run.left)
       → Arrives (msp430_machine setting.device) (msp430_analysis setting) (Covers setting.device) known_joined (msp430_flow setting) (site_of (msp430_flow setting) (register_of s 0) calls frame instr_so)
-      (onward_of setting frame a (register_of s 0) instr_so (worked setting.device (is_interrupt frame) a (register_of s 0) instr_so)) first (state_behind s run.left)
+      (onward_of setting frame front_so (register_of s 0) instr_so (worked setting.device (is_interrupt frame) front_so (register_of s 0) instr_so)) first (state_behind s run.left)
   unfolding msp430_machine
   arrives outcome run form =
       let device = setting.device in
       let framed = is_interrupt frame in
       let pc = register_of s 0 in
-      let made_so = worked device framed a pc instr_so in
+      let made_so = worked device framed front_so pc instr_so in
       let holds = at.stands.holds in
-      let ahead = onward_formed laws device framed a pc (device_of device at.setting_so.program) at.stands.form at.even instr_so at.fits in
+      let ahead = onward_formed laws device framed front_so pc (device_of device at.setting_so.program) at.stands.form at.even instr_so at.fits in
       let way = run.way in
-      onward_cases setting frame a pc instr_so made_so
+      onward_cases setting frame front_so pc instr_so made_so
       (λ (made : GoesOnward Known). Arrives (msp430_machine device) (msp430_analysis setting) (Covers device) known_joined (msp430_flow setting) (site_of (msp430_flow setting) pc calls frame instr_so)
       made first (state_behind s run.left))
-      (λ leaves_so. let state = followed (gie_of a) None made_so.after in let back = run.back frame at.in_frame leaves_so in
-      at_exit state refl (back.goes (state_behind s run.left) refl, behind_holds device a state s first run.left holds refl back.parts form, at.in_frame))
+      (λ leaves_so. let state = followed (gie_of front_so) None made_so.after in let back = run.back frame at.in_frame leaves_so in
+      at_exit state refl (back.goes (state_behind s run.left) refl, behind_holds device front_so state s first run.left holds refl back.parts form, at.in_frame))
       (λ _. beyond made_so.next refl)
-      (λ _. let formed = ways_formed laws.ways known_joined IsEvenWord (IsAhead device framed (gie_of a)) (joined_ahead laws device framed (gie_of a))
-      (ways_onward pc instr_so made_so.next (known_behind device framed a pc instr_so)) ahead way.way way.listed in
-      on_way way.way way.listed way.goes (way.goes, behind_holds device a way.way.1 s first run.left holds formed.known.1 way.holds form, at.in_frame))
+      (λ _. let formed = ways_formed laws.ways known_joined IsEvenWord (IsAhead device framed (gie_of front_so)) (joined_ahead laws device framed (gie_of front_so))
+      (ways_onward pc instr_so made_so.next (known_behind device framed front_so pc instr_so)) ahead way.way way.listed in
+      on_way way.way way.listed way.goes (way.goes, behind_holds device front_so way.way.1 s first run.left holds formed.known.1 way.holds form, at.in_frame))
 
-  pub run_lands : (items_so : List Single) (t : ChipState) (run : IsRun setting.device (is_interrupt frame) a s first instr_so (Onward items_so t))
+  pub run_lands : (items_so : List Single) (t : ChipState) (run : IsRun setting.device (is_interrupt frame) front_so s first instr_so (Onward items_so t))
       → IsChipState setting.device t
       → work_so.opens ≡ [] → (hit : Option ℕ) → run.left.hit ≡ hit → LandsAt items_so t
   unfolding msp430_machine
@@ -330,7 +332,7 @@ module _ (laws : Laws) (setting : Setting) (calls : List ℕ) (frame : Frame) (a
       let same = parts_of items_so singles t (state_behind s run.left) (run.outcome_is ∙ done_by_hit s instr_so run.accesses run.left None e) in
       subst (λ all. LandsAt all t) (sym same.0) (subst (LandsAt singles) (sym same.1)
       (generic_run_lands (msp430_machine device) (msp430_analysis setting) (Covers device) known_joined flow laws.ways pc calls frame a instr_so (flow.followed frame a pc instr_so)
-      s first (register_of s 1) run.accesses (state_behind s run.left) at.stands.holds.parts.sp run.shown
+      s first (register_of s 1) run.accesses (state_behind s run.left) at.known.holds.parts.sp run.shown
       (arrives (Onward items_so t) run (subst (IsChipState device) same.1 form)) none))
 
 -- WHERE AN INTERRUPT LANDS

@@ -1,5 +1,5 @@
 -- A work of the MSP430 shows words as stack pointers.
-use Rattle.std.proofs.Common.{ℕ, ◌+◌, ◌%◌, ◌++◌, Bool, true, false, Option, None, Some, List, [], ◌∷◌, sym, subst}
+use Rattle.std.proofs.Common.{ℕ, ◌+◌, ◌%◌, ◌++◌, Bool, true, false, Option, List, sym, subst}
 use Rattle.std.specs.Prelude.{Contains}
 use Rattle.value_set.specs.declared.form.Form.{Form}
 use Rattle.value_set.specs.Summing.{single}
@@ -29,7 +29,7 @@ use Rattle.msp430_alu.specs.Operands.{grown_known}
 use Rattle.msp430_status.specs.Status.{single_status_worked, status_worked}
 use Rattle.msp430_return.specs.Return.{return_worked}
 use Rattle.msp430_flow.specs.declared.setting.Setting.{Setting}
-use Rattle.msp430_flow.specs.Chip.{msp430_analysis, msp430_flow}
+use Rattle.msp430_flow.specs.Chip.{in_front, msp430_analysis, msp430_flow}
 use Rattle.msp430_flow.specs.Running.{double_or_status, one_operand, single_or_status, worked}
 use Rattle.msp430_flow.proofs.RegisterViews.{OperandView, TargetView, operand_view, target_view}
 use Rattle.msp430_flow.proofs.RegisterViews.OperandView.{other_operand, status_operand}
@@ -141,7 +141,7 @@ shows_words : (setting : Setting) → ShowsStacks IsWordSet (msp430_flow setting
 shows_words setting = record {
   stack = λ a. tt;
   entry = λ pc coming. (tt, (tt, (tt, tt)));
-  accesses = λ frame a pc instr. worked_words setting.device (is_interrupt frame) a pc instr;
+  accesses = λ frame a pc instr. worked_words setting.device (is_interrupt frame) (in_front setting a pc instr) pc instr;
 }
 
 pub no_byte_stack : (setting : Setting) (unit : WorkUnit) (a : Known) (exit : Option Known) (pc : ℕ) (values : Form)
