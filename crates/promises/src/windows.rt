@@ -43,8 +43,9 @@ pub fn windows_at<'a, S: Spoken>(
     if let Some(windows) = own_windows(promises, pc) {
         return Some(windows);
     }
+    let windows = other_windows(promises)?;
     if is_store(image.site_at(pc)) {
-        other_windows(promises)
+        Some(windows)
     } else {
         None
     }
