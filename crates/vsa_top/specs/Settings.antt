@@ -14,4 +14,4 @@ abbrev pub msp430_setting : RamRange → Limits → List (Option ℕ) → Msp430
 msp430_setting ram limits image = record { device = device_of ram image; limits = limits; promises = [] }
 
 abbrev pub mcs51_setting : Limits → List (Option ℕ) → Mcs51Setting
-mcs51_setting limits image = record { image = image; limits = limits }
+mcs51_setting limits image = record { image = image; limits = limits; promises = [] }
