@@ -1,5 +1,5 @@
 -- The steps of states that stand under what is known, and the opens of works.
-use Rattle.std.proofs.Common.{◌≡◌, ◌⊎◌, ℕ, ◌+◌, ◌*◌, ◌%◌, ◌<◌, ◌==◌, ◌++◌, cond, Bool, true, false, Option, None, Some, Result, Ok, Err, List, [], ◌∷◌, slice_index, refl, sym, ap, ◌∙◌, subst, inl, inr, Contains}
+use Rattle.std.proofs.Common.{◌≡◌, ◌⊎◌, ℕ, ◌+◌, ◌*◌, ◌%◌, ◌<◌, ◌==◌, ◌++◌, Bool, false, Option, None, Some, Result, Ok, Err, List, [], ◌∷◌, slice_index, refl, sym, ap, ◌∙◌, subst, inl, inr, Contains}
 use Rattle.std.proofs.lemmas.Bool.{cond_both, cond-true}
 use Rattle.std.proofs.lemmas.List.Elements.{Contains-append_cases, Contains-append_left, Contains-append_right}
 use Rattle.call_context.specs.declared.node.Frame.{Frame}
@@ -42,6 +42,7 @@ use Rattle.msp430_chip.specs.State.{allows_interrupts, register_of}
 use Rattle.msp430_chip.specs.Step.{Left, done, step_of}
 use Rattle.msp430_state.specs.Holding.{StandsIn}
 use Rattle.msp430_state.specs.Known.{Known, is_interrupt, known_joined}
+use Rattle.msp430_alu.specs.Doing.{here_at}
 use Rattle.msp430_alu.specs.Formats.{IsHit, IsUnder, Worked}
 use Rattle.msp430_entry.specs.declared.coming.Coming.{Coming}
 use Rattle.msp430_entry.specs.Entry.{ComesSo, comings_of, counter_slot, entry_shows, status_slot}
@@ -101,7 +102,7 @@ pub data Comes (device : Device) (framed : Bool) (a : Known) (s : ChipState) (fi
   entered : (coming_so : Coming) (bits : ℕ) → ComesSo device a s coming_so → bits < 128
       → outcome ≡ entry device s coming_so.vector bits → Comes device framed a s first outcome
   ran : (instr_so : Instr) → fetched device.image (register_of s 0) ≡ Some instr_so → IsInstr instr_so
-      → IsRun device framed a s first instr_so outcome → Comes device framed a s first outcome
+      → IsRun (here_at device framed a s first) instr_so outcome → Comes device framed a s first outcome
   refused : (refusal : NoInstr) → fetched device.image (register_of s 0) ≡ None
       → outcome ≡ Leaves (wild_cause.NoInstr refusal) → Comes device framed a s first outcome
 
@@ -117,7 +118,7 @@ leads laws device program framed a s first outcome under even (Runs instr_so len
     let is : decoded device.image pc ≡ Ok (instr_so, len) = sym (laws.decoding.one device.image pc (Ok (instr_so, len)) program.read.size program.read.bytes standing) in
     let row = laws.decoding.instruction device.image pc len instr_so program.read.size program.read.bytes is in
     ran instr_so (one_found (decoded device.image pc) instr_so len (fetched device.image pc) is (fetching_at device.image pc even)) row.0
-    (instr_run laws device framed a s first instr_so outcome under row.0 (subst (λ l. MayRun device s instr_so l outcome) row.1 may))
+    (instr_run laws (here_at device framed a s first) instr_so outcome under row.0 (subst (λ l. MayRun device s instr_so l outcome) row.1 may))
 leads laws device program framed a s first outcome under even (NoneStands refusal decodes is) =
     let pc = register_of s 0 in
     let none : decoded device.image pc ≡ Err refusal = sym (laws.decoding.one device.image pc (Err refusal) program.read.size program.read.bytes decodes) in
@@ -181,7 +182,7 @@ store_told setting pc calls frame a instr_so made_so at (Some set) is hit =
     told_by (work_by known_joined (msp430_flow setting) pc calls frame a instr_so made) pc set (program_written at) tt (instr_open known_joined (msp430_flow setting) pc calls frame a instr_so made (Store set) opened)
 
 hit_told_by : (setting : Setting) (calls : List ℕ) (frame : Frame) (a : Known) (s : ChipState) (first : Option ChipState) (instr_so : Instr) (wild : WildCause)
-    → (run : IsRun setting.device (is_interrupt frame) a s first instr_so (Leaves wild)) → (hit : Option ℕ) → run.left.hit ≡ hit
+    → (run : IsRun (here_at setting.device (is_interrupt frame) a s first) instr_so (Leaves wild)) → (hit : Option ℕ) → run.left.hit ≡ hit
     → IsTold (work_at known_joined (msp430_flow setting) (register_of s 0) calls frame a (Some instr_so)) (leaving_of wild)
 hit_told_by setting calls frame a s first instr_so wild run None e =
     let outcome = run.outcome_is ∙ done_by_hit s instr_so run.accesses run.left None e in absurd (cc)
