@@ -12,16 +12,13 @@ use Rattle.flow_laws.specs.Landing.{Arrives, entry_lands as generic_entry_lands,
 use Rattle.flow_laws.specs.Landing.Arrives.{at_exit, beyond, on_way}
 use Rattle.chip_flow.specs.Works.{site_of, work_at}
 use Rattle.chip_flow.specs.declared.going.Onward.{Onward as GoesOnward}
-use Rattle.plain_lemmas.specs.Members.{in_one}
 use Rattle.std.specs.List.{slice_index_or}
 use Rattle.choosing.specs.Outcome.Outcome.{Next as Onward}
 use Rattle.value_bits.specs.declared.tri.Tri.{Tri}
 use Rattle.value_bits.specs.declared.tri.Tri.TheVariants.{Zero, One, Either}
 use Rattle.value_bits.specs.Bits.{Agrees}
 use Rattle.value_bits.specs.Flags.{IsFlag}
-use Rattle.value_set.specs.declared.form.Form.{Form}
-use Rattle.value_set.specs.Form.{Has, IsNormal}
-use Rattle.value_set.specs.Remainders.{HasRemainder}
+use Rattle.value_set.specs.Form.{Has}
 use Rattle.msp430_decode.specs.declared.instr.Condition.{Condition}
 use Rattle.msp430_decode.specs.declared.instr.Instr.{Instr}
 use Rattle.msp430_decode.specs.declared.instr.Instr.TheVariants as instr
@@ -29,7 +26,6 @@ use Rattle.msp430_decode.specs.declared.instr.Destination.{Destination}
 use Rattle.msp430_decode.specs.declared.instr.Destination.TheVariants as destination
 use Rattle.msp430_decode.specs.declared.instr.Operation.{Operation}
 use Rattle.msp430_decode.specs.declared.instr.Register.TheVariants.{Sr}
-use Rattle.msp430_decode.specs.Operands.{IsSource}
 use Rattle.msp430_decode.specs.declared.instr.SingleOperation.{SingleOperation}
 use Rattle.msp430_decode.specs.declared.instr.Source.{Source}
 use Rattle.msp430_decode.specs.declared.instr.Source.TheVariants as source
@@ -49,10 +45,9 @@ use Rattle.msp430_state.specs.Forms.{IsEvenWord, IsFact, IsKnown}
 use Rattle.msp430_state.specs.Holding.{Covers, HoldsOf, HoldsOfParts, StandsIn}
 use Rattle.msp430_state.specs.Known.{Known, is_interrupt, known_joined}
 use Rattle.msp430_state.specs.Status.{common_bit}
-use Rattle.msp430_status.specs.Status.{single_status_worked, status_worked}
-use Rattle.msp430_return.specs.Return.{return_worked}
 use Rattle.msp430_branch.specs.Cuts.{known_cut}
-use Rattle.msp430_alu.specs.Formats.{IsUnder, Worked, push_worked, single_worked, double_worked}
+use Rattle.msp430_alu.specs.Doing.{IsWellMade, here_at}
+use Rattle.msp430_alu.specs.Formats.{IsUnder, Worked, push_worked}
 use Rattle.msp430_alu.specs.Memory.{IsDevice}
 use Rattle.msp430_entry.specs.declared.coming.Coming.{Coming}
 use Rattle.msp430_entry.specs.Entry.{ComesSo, entry_shows}
@@ -60,9 +55,6 @@ use Rattle.msp430_flow.specs.declared.setting.Setting.{Setting}
 use Rattle.msp430_flow.specs.Chip.{IsSetting, in_front, msp430_analysis, msp430_flow, onward_of}
 use Rattle.msp430_flow.specs.Machine.{msp430_machine}
 use Rattle.msp430_flow.specs.Running.{fact_of, followed, gie_of, known_behind, single_or_status, ways_onward, worked}
-use Rattle.msp430_flow.proofs.RegisterViews.{OperandView, TargetView, operand_view, target_view}
-use Rattle.msp430_flow.proofs.RegisterViews.OperandView.{other_operand, status_operand}
-use Rattle.msp430_flow.proofs.RegisterViews.TargetView.{other_target, status_target}
 use Rattle.msp430_flow.specs.LawsBelow.{Laws}
 use Rattle.msp430_flow.proofs.Ways.{onward_cases}
 use Rattle.msp430_flow.proofs.Runs.{IsRun, late_form, width_of}
@@ -70,15 +62,11 @@ use Rattle.msp430_flow.proofs.Stepping.{device_of, done_by_hit, entered_state, e
 
 -- FORMS
 
--- what the work of an instruction rests on
-pub record IsFormed (device : Device) (framed : Bool) (made_so : Worked) : Type 0 where
-  pub after : IsKnown device.ram.lo device.ram.hi framed made_so.after
-  pub next : (to : ℕ) → Has 65536 made_so.next to → IsEvenWord to
-
--- the next addresses are even words
-next_even : Laws → (ahead : ℕ) (next : Form) → ahead % 2 ≡ 0 → IsNormal 65536 next
-    → (ahead % 2 ≡ 0 → HasRemainder 65536 2 0 next) → (to : ℕ) → Has 65536 next to → IsEvenWord to
-next_even laws ahead next even normal rest to has = (laws.known.sets.below 65536 to next normal has, rest even to has)
+-- the next addresses of an instruction are even words
+next_even : Laws → {device : Device} {framed : Bool} {behind : ℕ} {made_so : Worked}
+    → IsWellMade device framed behind made_so → behind % 2 ≡ 0 → (to : ℕ) → Has 65536 made_so.next to → IsEvenWord to
+next_even laws {made_so = made_so} well even to has =
+    (laws.known.sets.below 65536 to made_so.next well.next has, well.even even to has)
 
 behind_even : (pc words : ℕ) → IsEvenWord pc → IsEvenWord ((pc + (2 + 2 * words)) % 65536)
 behind_even pc words h = let even = h.1 in (omega arith, omega arith)
@@ -88,91 +76,54 @@ target_even pc offset h = let even = h.1 in
     cond_both (nat_lt offset 512) ((pc + 2 + 2 * offset) % 65536) ((pc + 2 + 2 * offset + 65536 - 2048) % 65536) IsEvenWord
     (λ e. (omega arith, omega arith)) (λ e. (omega arith, omega arith))
 
-module _ (laws : Laws) (device : Device) (framed : Bool) (a : Known) (pc : ℕ) (is : IsDevice device) (form : IsKnown device.ram.lo device.ram.hi framed a) (even : IsEvenWord pc) where
-  status_form : (operation : Operation) (width : Width) (origin : Source) (target : Destination) → IsSource origin
-      → target ≡ destination.Register Sr
-      → IsFormed device framed (worked device framed a pc (instr.Double operation width origin target))
-  status_form operation width origin target fits status =
-      let i = instr.Double operation width origin (destination.Register Sr) in
-      let len = length_of i in
-      subst (λ t. IsFormed device framed (worked device framed a pc (instr.Double operation width origin t))) (sym status) (record {
-        after = laws.statuses.form device framed a pc len operation width origin is form fits;
-        next = next_even laws ((pc + len) % 65536) (status_worked device framed a pc len operation width origin).next (behind_even pc (length (extension_words i)) even).1
-            (laws.statuses.next device framed a pc len operation width origin) (laws.statuses.even device framed a pc len operation width origin);
-      })
+module _ (laws : Laws) (device : Device) (framed : Bool) (a : Known) (pc : ℕ) (is : IsDevice device) (form : IsKnown device.ram.lo device.ram.hi framed a) where
+  abbrev IsMade : Instr → Type 0
+  IsMade instr_so = IsWellMade device framed ((pc + length_of instr_so) % 65536) (worked device framed a pc instr_so)
 
-  double_form : (operation : Operation) (width : Width) (origin : Source) (target : Destination)
-      → IsInstr (instr.Double operation width origin target) → TargetView target
-      → IsFormed device framed (worked device framed a pc (instr.Double operation width origin target))
-  double_form operation width origin target fits (other_target leaves_so same) =
-      let i = instr.Double operation width origin target in
-      let len = length_of i in
-      subst (IsFormed device framed) (sym (same device framed a pc len operation width origin)) (record {
-        after = laws.doubles.form device framed a pc len operation width origin target is form fits.0 fits.1;
-        next = next_even laws ((pc + len) % 65536) (double_worked device framed a pc len operation width origin target).next (behind_even pc (length (extension_words i)) even).1
-            (laws.doubles.next device framed a pc len operation width origin target is form fits.0 fits.1)
-            (laws.doubles.even device framed a pc len operation width origin target is form fits.0 fits.1);
-      })
-  double_form operation width origin target fits (status_target status) = status_form operation width origin target fits.0 status
+  double_made : (operation : Operation) (width : Width) (origin : Source) (target : Destination)
+      → IsInstr (instr.Double operation width origin target) → IsMade (instr.Double operation width origin target)
+  double_made operation width origin (destination.Register Sr) fits =
+      laws.statuses.made device framed a pc (length_of (instr.Double operation width origin (destination.Register Sr)))
+      operation width origin is form fits.0
+  double_made operation width origin target fits =
+      laws.doubles.made device framed a pc (length_of (instr.Double operation width origin target)) operation width origin
+      target is form fits.0 fits.1
 
-  single_status_form : (operation : SingleOperation) (width : Width)
-      → IsFormed device framed (single_status_worked device framed a pc (length_of (instr.Single operation width (source.Register Sr))) operation width)
-  single_status_form operation width =
-      let i = instr.Single operation width (source.Register Sr) in
-      let len = length_of i in
-      record {
-        after = laws.single_statuses.form device framed a pc len operation width form;
-        next = next_even laws ((pc + len) % 65536) (single_status_worked device framed a pc len operation width).next (behind_even pc (length (extension_words i)) even).1
-            (laws.single_statuses.next device framed a pc len operation width) (laws.single_statuses.even device framed a pc len operation width);
-      }
+  -- an operation that pushes nothing
+  plain_made : (operation : SingleOperation) (width : Width) (operand : Source)
+      → IsInstr (instr.Single operation width operand)
+      → let len = length_of (instr.Single operation width operand) in
+      IsWellMade device framed ((pc + len) % 65536) (single_or_status device framed a pc len operation width operand)
+  plain_made operation width (source.Register Sr) fits =
+      laws.single_statuses.made device framed a pc (length_of (instr.Single operation width (source.Register Sr))) operation
+      width form
+  plain_made operation width operand fits =
+      laws.singles.made device framed a pc (length_of (instr.Single operation width operand)) operation width operand is
+      form fits.0 (width_of operation width operand fits)
 
-  single_form : (operation : SingleOperation) (width : Width) (operand : Source)
-      → IsInstr (instr.Single operation width operand) → OperandView operand
-      → IsFormed device framed (single_or_status device framed a pc (length_of (instr.Single operation width operand)) operation width operand)
-  single_form operation width operand fits (other_operand leaves_so same) =
-      let i = instr.Single operation width operand in
-      let len = length_of i in
-      let wide = width_of operation width operand fits in
-      subst (IsFormed device framed) (sym (same device framed a pc len operation width)) (record {
-        after = laws.singles.form device framed a pc len operation width operand is form fits.0 wide;
-        next = next_even laws ((pc + len) % 65536) (single_worked device framed a pc len operation width operand).next (behind_even pc (length (extension_words i)) even).1
-            (laws.singles.next device framed a pc len operation width operand is form fits.0 wide)
-            (laws.singles.even device framed a pc len operation width operand is form fits.0 wide);
-      })
-  single_form operation width operand fits (status_operand status) =
-      subst (λ o. IsFormed device framed (single_or_status device framed a pc (length_of (instr.Single operation width o)) operation width o)) (sym status)
-      (single_status_form operation width)
-
-  push_form : (operation : SingleOperation) (width : Width) (operand : Source) → IsInstr (instr.Single operation width operand)
-      → IsFormed device framed (push_worked device framed a pc (length_of (instr.Single operation width operand)) operation width operand)
-  push_form operation width operand fits =
-      let i = instr.Single operation width operand in
-      let len = length_of i in
-      record {
-        after = laws.pushes.form device framed a pc len operation width operand is form fits.0;
-        next = next_even laws ((pc + len) % 65536) (push_worked device framed a pc len operation width operand).next (behind_even pc (length (extension_words i)) even).1
-            (laws.pushes.next device framed a pc len operation width operand is form fits.0)
-            (laws.pushes.even device framed a pc len operation width operand is form fits.0);
-      }
-
-  return_form : IsFormed device framed (return_worked device a pc)
-  return_form = record {
-    after = laws.returns.form device framed a pc is form;
-    next = next_even laws 0 (return_worked device a pc).next refl (laws.returns.next device framed a pc is form) (λ _. laws.returns.even device framed a pc is form);
-  }
+  push_made : (operation : SingleOperation) (width : Width) (operand : Source)
+      → IsInstr (instr.Single operation width operand)
+      → let len = length_of (instr.Single operation width operand) in
+      IsWellMade device framed ((pc + len) % 65536) (push_worked device framed a pc len operation width operand)
+  push_made operation width operand fits =
+      laws.pushes.made device framed a pc (length_of (instr.Single operation width operand)) operation width operand is
+      form fits.0
 
   -- what every instruction makes
-  pub worked_formed : (instr_so : Instr) → IsInstr instr_so → IsFormed device framed (worked device framed a pc instr_so)
-  worked_formed (instr.Double operation width origin target) fits = double_form operation width origin target fits (target_view target)
-  worked_formed (instr.Single Push width operand) fits = push_form Push width operand fits
-  worked_formed (instr.Single Call width operand) fits = push_form Call width operand fits
-  worked_formed (instr.Single Rrc width operand) fits = single_form Rrc width operand fits (operand_view operand)
-  worked_formed (instr.Single Swpb width operand) fits = single_form Swpb width operand fits (operand_view operand)
-  worked_formed (instr.Single Rra width operand) fits = single_form Rra width operand fits (operand_view operand)
-  worked_formed (instr.Single Sxt width operand) fits = single_form Sxt width operand fits (operand_view operand)
-  worked_formed (instr.Jump condition offset) fits =
-      record { after = form; next = λ to has. subst IsEvenWord (in_one ((pc + 2) % 65536) to has) (behind_even pc 0 even) }
-  worked_formed instr.ReturnFromInterrupt fits = return_form
+  pub worked_made : (instr_so : Instr) → IsInstr instr_so → IsMade instr_so
+  worked_made (instr.Double operation width origin target) fits = double_made operation width origin target fits
+  worked_made (instr.Single Push width operand) fits = push_made Push width operand fits
+  worked_made (instr.Single Call width operand) fits = push_made Call width operand fits
+  worked_made (instr.Single Rrc width operand) fits = plain_made Rrc width operand fits
+  worked_made (instr.Single Swpb width operand) fits = plain_made Swpb width operand fits
+  worked_made (instr.Single Rra width operand) fits = plain_made Rra width operand fits
+  worked_made (instr.Single Sxt width operand) fits = plain_made Sxt width operand fits
+  worked_made (instr.Jump condition offset) fits = record {
+    form = form;
+    next = (laws.known.sets.single 65536 ((pc + 2) % 65536) (omega arith)).0;
+    even = laws.known.sets.single_rest 65536 2 0 ((pc + 2) % 65536);
+  }
+  worked_made instr.ReturnFromInterrupt fits = laws.returns.made device framed a pc ((pc + 2) % 65536) is form
 
 -- WAYS
 
@@ -212,20 +163,26 @@ module _ (laws : Laws) (device : Device) (framed : Bool) (a : Known) (pc : ℕ) 
   abbrev made_so : Worked
   made_so = worked device framed a pc instr_so
 
+  well_made : IsWellMade device framed ((pc + length_of instr_so) % 65536) made_so
+  well_made = worked_made laws device framed a pc is form instr_so fits
+
+  next_so : (to : ℕ) → Has 65536 made_so.next to → IsEvenWord to
+  next_so = next_even laws well_made (behind_even pc (length (extension_words instr_so)) even).1
+
   -- what is known behind an instruction, with a fact of the flags or none
   ahead_form : (fact : Option FlagFact) → IsFact fact → IsAhead device framed (gie_of a) (followed (gie_of a) fact made_so.after)
   ahead_form fact told =
-      (late_form device.ram.lo device.ram.hi framed (gie_of a) fact made_so.after told (worked_formed laws device framed a pc is form even instr_so fits).after, refl)
+      (late_form device.ram.lo device.ram.hi framed (gie_of a) fact made_so.after told well_made.form, refl)
 
   behind_form : IsAhead device framed (gie_of a) (known_behind device framed a pc instr_so)
   behind_form = ahead_form (fact_of instr_so made_so.after)
-      (fact_form laws instr_so made_so.after (worked_formed laws device framed a pc is form even instr_so fits).after.fact)
+      (fact_form laws instr_so made_so.after well_made.form.fact)
 
   -- along its ways, before a jump tells more and behind it
   ways_ahead : (its : Instr) → IsAhead device framed (gie_of a) (known_behind device framed a pc instr_so)
       → IsOnward IsEvenWord (IsAhead device framed (gie_of a)) (ways_onward pc its made_so.next (known_behind device framed a pc instr_so))
-  ways_ahead (instr.Double operation width origin target) ahead = ((worked_formed laws device framed a pc is form even instr_so fits).next, ahead)
-  ways_ahead (instr.Single operation width operand) ahead = ((worked_formed laws device framed a pc is form even instr_so fits).next, ahead)
+  ways_ahead (instr.Double operation width origin target) ahead = (next_so, ahead)
+  ways_ahead (instr.Single operation width operand) ahead = (next_so, ahead)
   ways_ahead (instr.Jump condition offset) ahead =
       let b = known_behind device framed a pc instr_so in (
         behind_even pc 0 even,
@@ -233,7 +190,7 @@ module _ (laws : Laws) (device : Device) (framed : Bool) (a : Known) (pc : ℕ) 
         cut_ahead laws device framed condition false b (known_cut condition false b) ahead.0 refl,
         cut_ahead laws device framed condition true b (known_cut condition true b) ahead.0 refl,
       )
-  ways_ahead instr.ReturnFromInterrupt ahead = ((worked_formed laws device framed a pc is form even instr_so fits).next, ahead)
+  ways_ahead instr.ReturnFromInterrupt ahead = (next_so, ahead)
 
   pub onward_formed : IsOnward IsEvenWord (IsAhead device framed (gie_of a)) (ways_onward pc instr_so made_so.next (known_behind device framed a pc instr_so))
   onward_formed = ways_ahead instr_so behind_form
@@ -296,7 +253,7 @@ module _ (laws : Laws) (setting : Setting) (calls : List ℕ) (frame : Frame) (a
   abbrev front_so : Known
   front_so = in_front setting a (register_of s 0) instr_so
 
-  arrives : (outcome : Outcome ChipState) (run : IsRun setting.device (is_interrupt frame) front_so s first instr_so outcome)
+  arrives : (outcome : Outcome ChipState) (run : IsRun (here_at setting.device (is_interrupt frame) front_so s first) instr_so outcome)
       → IsChipState setting.device (state_behind s run.left)
       → Arrives (msp430_machine setting.device) (msp430_analysis setting) (Covers setting.device) known_joined (msp430_flow setting) (site_of (msp430_flow setting) (register_of s 0) calls frame instr_so)
       (onward_of setting frame front_so (register_of s 0) instr_so (worked setting.device (is_interrupt frame) front_so (register_of s 0) instr_so)) first (state_behind s run.left)
@@ -319,7 +276,7 @@ module _ (laws : Laws) (setting : Setting) (calls : List ℕ) (frame : Frame) (a
       (ways_onward pc instr_so made_so.next (known_behind device framed front_so pc instr_so)) ahead way.way way.listed in
       on_way way.way way.listed way.goes (way.goes, behind_holds device front_so way.way.1 s first run.left holds formed.known.1 way.holds form, at.in_frame))
 
-  pub run_lands : (items_so : List Single) (t : ChipState) (run : IsRun setting.device (is_interrupt frame) front_so s first instr_so (Onward items_so t))
+  pub run_lands : (items_so : List Single) (t : ChipState) (run : IsRun (here_at setting.device (is_interrupt frame) front_so s first) instr_so (Onward items_so t))
       → IsChipState setting.device t
       → work_so.opens ≡ [] → (hit : Option ℕ) → run.left.hit ≡ hit → LandsAt items_so t
   unfolding msp430_machine

@@ -42,6 +42,7 @@ use Rattle.msp430_chip.specs.State.{allows_interrupts, register_of}
 use Rattle.msp430_chip.specs.Step.{Left, done, step_of}
 use Rattle.msp430_state.specs.Holding.{StandsIn}
 use Rattle.msp430_state.specs.Known.{Known, is_interrupt, known_joined}
+use Rattle.msp430_alu.specs.Doing.{here_at}
 use Rattle.msp430_alu.specs.Formats.{IsHit, IsUnder, Worked}
 use Rattle.msp430_entry.specs.declared.coming.Coming.{Coming}
 use Rattle.msp430_entry.specs.Entry.{ComesSo, comings_of, counter_slot, entry_shows, status_slot}
@@ -103,7 +104,7 @@ pub data Comes (setting : Setting) (framed : Bool) (a : Known) (s : ChipState) (
       → outcome ≡ entry setting.device s coming_so.vector bits → Comes setting framed a s first outcome
   ran : (instr_so : Instr) → fetched setting.device.image (register_of s 0) ≡ Some instr_so → IsInstr instr_so
       → IsUnder setting.device framed (in_front setting a (register_of s 0) instr_so) s first
-      → IsRun setting.device framed (in_front setting a (register_of s 0) instr_so) s first instr_so outcome → Comes setting framed a s first outcome
+      → IsRun (here_at setting.device framed (in_front setting a (register_of s 0) instr_so) s first) instr_so outcome → Comes setting framed a s first outcome
   refused : (refusal : NoInstr) → fetched setting.device.image (register_of s 0) ≡ None
       → outcome ≡ Leaves (wild_cause.NoInstr refusal) → Comes setting framed a s first outcome
 
@@ -122,7 +123,7 @@ leads laws setting program framed a s first outcome under is_kept even (Runs ins
     let b = in_front setting a pc instr_so in
     let ahead = laws.fronts.holds device setting.promises framed a s first instr_so len outcome under is may is_kept in
     ran instr_so (one_found (decoded device.image pc) instr_so len (fetched device.image pc) is (fetching_at device.image pc even)) row.0 ahead
-    (instr_run laws device framed b s first instr_so outcome ahead row.0 (subst (λ l. MayRun device s instr_so l outcome) row.1 may))
+    (instr_run laws (here_at device framed b s first) instr_so outcome ahead row.0 (subst (λ l. MayRun device s instr_so l outcome) row.1 may))
 leads laws setting program framed a s first outcome under is_kept even (NoneStands refusal decodes is) =
     let device = setting.device in
     let pc = register_of s 0 in
@@ -187,7 +188,7 @@ store_told setting pc calls frame a b instr_so made_so at (Some set) is hit =
     told_by (work_by known_joined (msp430_flow setting) pc calls frame a instr_so made) pc set (program_written at) tt (instr_open known_joined (msp430_flow setting) pc calls frame a instr_so made (Store set) opened)
 
 hit_told_by : (setting : Setting) (calls : List ℕ) (frame : Frame) (a : Known) (s : ChipState) (first : Option ChipState) (instr_so : Instr) (wild : WildCause)
-    → (run : IsRun setting.device (is_interrupt frame) (in_front setting a (register_of s 0) instr_so) s first instr_so (Leaves wild)) → (hit : Option ℕ) → run.left.hit ≡ hit
+    → (run : IsRun (here_at setting.device (is_interrupt frame) (in_front setting a (register_of s 0) instr_so) s first) instr_so (Leaves wild)) → (hit : Option ℕ) → run.left.hit ≡ hit
     → IsTold (work_at known_joined (msp430_flow setting) (register_of s 0) calls frame a (Some instr_so)) (leaving_of wild)
 hit_told_by setting calls frame a s first instr_so wild run None e =
     let outcome = run.outcome_is ∙ done_by_hit s instr_so run.accesses run.left None e in absurd (cc)
