@@ -1,2 +1,3 @@
+pub mod KeptSteps
 pub mod Landing
 pub mod Returns

@@ -2,19 +2,14 @@
 use Rattle.std.proofs.Common.{◌≡◌, ℕ, ◌<◌, Option, None, Some, refl, arith}
 use Rattle.value_set.specs.declared.form.Form.{Form}
 use Rattle.value_set.specs.Cutting.{cut}
-use Rattle.value_set.specs.Form.{Has, IsNormal, above}
+use Rattle.value_set.specs.Form.{Has, IsNormal}
 use Rattle.value_set.specs.Laws.{SetLaws}
 use Rattle.mcs51_branch.specs.declared.window.Window.{Window}
-use Rattle.mcs51_branch.specs.Cuts.{cut_to}
+use Rattle.mcs51_branch.specs.Cuts.{IsInside, cut_to}
 
 some_part : {A : Type 0} (o : Option A) → (o ≡ None → ⊥) → (part : A) × (o ≡ Some part)
 some_part None none = absurd (none refl)
 some_part (Some part) none = (part, refl)
-
--- the byte is one of the window's
-pub record IsInside (v : ℕ) (window : Window) : Type 0 where
-  pub low : window.low < 256
-  pub inside : above 256 window.low v < window.len
 
 -- what is left of a set has each of its members that is in the window
 pub part_has : (laws : SetLaws) (v : ℕ) (set : Form) (window : Window) → IsNormal 256 set → Has 256 set v → IsInside v window

@@ -21,9 +21,9 @@ use Rattle.mcs51_state.specs.Known.{Known}
 use Rattle.mcs51_state.specs.Places.{suspended_of}
 use Rattle.mcs51_state.specs.Under.{IsUnder}
 use Rattle.mcs51_branch.specs.declared.window.Window.{Window}
-use Rattle.mcs51_branch.specs.Cuts.{cut_to, place_cut, set_at, with_set, words_of}
+use Rattle.mcs51_branch.specs.Cuts.{IsInside, cut_to, place_cut, set_at, with_set, words_of}
 use Rattle.mcs51_branch.proofs.Cells.{cell_normal, cell_put, cell_put_form, cell_read, cells_alike, read_relation, write_each, written_same}
-use Rattle.mcs51_branch.proofs.Cutting.{IsInside, part_has, part_normal}
+use Rattle.mcs51_branch.proofs.Cutting.{part_has, part_normal}
 
 -- WHAT IS KNOWN
 

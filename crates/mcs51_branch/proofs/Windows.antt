@@ -4,8 +4,7 @@ use Rattle.std.specs.Prelude.{nat_lt, not}
 use Rattle.std.proofs.lemmas.Bool.{cond_both}
 use Rattle.std.proofs.lemmas.Bool.Decides.{nat_tests}
 use Rattle.mcs51_branch.specs.declared.window.Window.{Window}
-use Rattle.mcs51_branch.specs.Cuts.{equality_window, order_window}
-use Rattle.mcs51_branch.proofs.Cutting.{IsInside}
+use Rattle.mcs51_branch.specs.Cuts.{IsInside, equality_window, order_window}
 
 pub twice_not : (b : Bool) → not (not b) ≡ b
 twice_not true = refl

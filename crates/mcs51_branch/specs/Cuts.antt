@@ -1,9 +1,10 @@
 -- Bytes that a jump looks at, cut to the numbers with which it goes one way (Intel, MCS-51 Programmer's Guide and Instruction
 -- Set: JC, JNC, JZ, JNZ, CJNE and DJNZ).
-use Rattle.std.specs.Prelude.{ℕ, ◌+◌, ◌-◌, ◌%◌, if◌then◌else◌, Bool, Option, option_map}
+use Rattle.std.specs.Prelude.{ℕ, ◌+◌, ◌-◌, ◌%◌, ◌<◌, if◌then◌else◌, Bool, Option, option_map}
 use Rattle.entry_value.specs.Cells.{read, write_one}
 use Rattle.value_set.specs.declared.form.Form.{Form}
 use Rattle.value_set.specs.Cutting.{cut}
+use Rattle.value_set.specs.Form.{above}
 use Rattle.value_set.specs.Summing.{single}
 use Rattle.value_bits.specs.Sets.{low_set, pair_set}
 use Rattle.mcs51_state.specs.declared.fact.Compared.{Compared}
@@ -12,6 +13,11 @@ use Rattle.mcs51_state.specs.Known.{Known}
 use Rattle.mcs51_branch.specs.declared.window.Window.{Window}
 
 -- WINDOWS
+
+-- the byte is one of the window's
+pub record IsInside (v : ℕ) (window : Window) : Type 0 where
+  pub low : window.low < 256
+  pub inside : above 256 window.low v < window.len
 
 -- the number alone, or all the others
 abbrev pub equality_window : (equal : Bool) → (number : ℕ) → Window

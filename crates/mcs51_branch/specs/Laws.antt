@@ -15,13 +15,14 @@ use Rattle.mcs51_state.specs.Holding.{compared_in}
 use Rattle.mcs51_state.specs.Known.{Known}
 use Rattle.mcs51_state.specs.Under.{IsUnder}
 use Rattle.mcs51_branch.specs.declared.operand.Operand.{Operand}
-use Rattle.mcs51_branch.specs.Cuts.{with_set}
+use Rattle.mcs51_branch.specs.declared.window.Window.{Window}
+use Rattle.mcs51_branch.specs.Cuts.{IsInside, place_cut, with_set}
 use Rattle.mcs51_branch.specs.Jumps.{IsNumberOf, IsOperand, comparison_cut, compared_with, condition_cut, lowered_cut}
 use Rattle.mcs51_branch.specs.Testing.{IsPlace, bit_tested}
 
 -- A state that stands under what is known in front of a jump stands under what is known on the way that the chip goes: by
 -- its condition, behind CJNE with the CY that it writes, and DJNZ's lowered byte is one of its numbers there. What is known on
--- each way is in form. Of A or a byte of RAM any set may be known that has it.
+-- each way is in form. Of A or a byte of RAM any set may be known that has it, and so may what is left in a window where it stands.
 pub record JumpsHold : Type 0 where
   pub condition : (framed : Bool) (known : Known) (s : ChipState) (first : Option ChipState) (condition : Condition)
       → IsUnder framed known s first
@@ -49,6 +50,11 @@ pub record JumpsHold : Type 0 where
       → IsUnder framed (with_set place known set) s first
   pub place_form : (framed : Bool) (place : Compared) (known : Known) (set : Form) → IsCompared place → IsNormal 256 set
       → IsKnown framed known → IsKnown framed (with_set place known set)
+  pub cut : (framed : Bool) (place : Compared) (window : Window) (known : Known) (s : ChipState) (first : Option ChipState)
+      → IsCompared place → IsInside (compared_in place s) window → IsUnder framed known s first
+      → (part : Known) × (place_cut place window known ≡ Some part) × IsUnder framed part s first
+  pub cut_form : (framed : Bool) (place : Compared) (window : Window) (known part : Known) → IsCompared place
+      → window.low < 256 → IsKnown framed known → place_cut place window known ≡ Some part → IsKnown framed part
 
 -- The same of a jump by a bit: whatever the byte may be read as, where the chip finds its bit so the way isn't left out.
 pub record BitsHold : Type 0 where

@@ -7,7 +7,8 @@ use irq_frames::known_laws;
 
 /// A state that stands under what is known in front of a jump stands under what is known on the way that the chip goes: by
 /// its condition, behind CJNE with the CY that it writes, and DJNZ's lowered byte is one of its numbers there. What is known on
-/// each way is in form. Of A or a byte of RAM any set may be known that has it.
+/// each way is in form. Of A or a byte of RAM any set may be known that has it, and so may what is left in a window where it
+/// stands.
 pub fn jumps_hold()
     ensures { JumpsHold }
 {

@@ -61,8 +61,9 @@ pub(crate) fn put<M: Cells>(state: &mut State<M>, place: Compared, set: Vs8) -> 
     }
 }
 
-/// Cuts a byte to a window.
-pub(crate) fn cut_place<M: Cells>(
+/// Cuts a byte to a window: the numbers that are left, where there are any, and otherwise answers `false`. Then, and where memory
+/// lacks, all is as it was.
+pub fn cut_place<M: Cells>(
     state: &mut State<M>,
     place: Compared,
     window: Window,

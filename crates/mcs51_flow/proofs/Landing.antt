@@ -39,10 +39,10 @@ use Rattle.mcs51_entry.specs.Entering.{entry_accesses, entry_edge}
 use Rattle.mcs51_flow.specs.declared.ran.Way.{Way}
 use Rattle.mcs51_flow.specs.declared.ran.Way.TheVariants as way
 use Rattle.mcs51_flow.specs.Doing.{IsWay, IsWaySo, RunsSo}
-use Rattle.mcs51_flow.specs.Running.{Ran, ran_of}
+use Rattle.mcs51_flow.specs.Running.{Ran}
 use Rattle.plain_lemmas.specs.Members.{from_map, in_first, in_one}
 use Rattle.mcs51_flow.specs.declared.setting.Setting.{Setting}
-use Rattle.mcs51_flow.specs.Chip.{IsSetting, entry_items, mcs51_analysis, mcs51_flow}
+use Rattle.mcs51_flow.specs.Chip.{IsSetting, entry_items, in_front, kept_ran, mcs51_analysis, mcs51_flow}
 use Rattle.mcs51_flow.specs.Going.{leaves_frame, onward_by}
 use Rattle.mcs51_flow.specs.Machine.{mcs51_machine}
 use Rattle.mcs51_flow.proofs.Arriving.{either_way}
@@ -68,7 +68,7 @@ pub record AtLocation (setting : Setting) (frame : Frame) (a : Known) (s : ChipS
   pub in_frame : StandsIn frame first
   pub fits : IsInstr instr_so
   pub may : MayDo setting.image s instr_so effect
-  pub runs : RunsSo (is_interrupt frame) first s.pc (ran_of setting.image (is_interrupt frame) s.pc a instr_so) (going_to (following s.pc instr_so) s) effect
+  pub runs : RunsSo (is_interrupt frame) first s.pc (kept_ran setting (is_interrupt frame) s.pc a instr_so) (going_to (following s.pc instr_so) s) effect
 
 -- the accesses of an instruction are shown, whichever way it goes
 way_shown : (framed : Bool) (first : Option ChipState) (items : List Item) (pc : ℕ) (made : Way Known) (s : ChipState) (effect : Effect)
@@ -80,7 +80,7 @@ way_shown framed first items pc (way.Goes target on jumped) s effect so = so.sho
 module _ (laws : Laws) (setting : Setting) (calls : List ℕ) (frame : Frame) (a : Known) (s : ChipState) (first : Option ChipState) (instr_so : Instr) (effect : Effect)
     (at : AtLocation setting frame a s first instr_so effect) where
   abbrev ran_so : Ran
-  ran_so = ran_of setting.image (is_interrupt frame) s.pc a instr_so
+  ran_so = kept_ran setting (is_interrupt frame) s.pc a instr_so
 
   abbrev ArrivesAt : GoesOnward Known → Type 0
   ArrivesAt made =
@@ -96,7 +96,7 @@ module _ (laws : Laws) (setting : Setting) (calls : List ℕ) (frame : Frame) (a
       → ArrivesAt (onward_by made back setting.limits.targets (following s.pc instr_so))
   arrives_by true is (way.Lands targets b) ran form so =
       at_exit b refl (return_goes laws setting.image frame a s first instr_so effect (is_return instr_so frame a is) at.stands at.in_frame is at.may, so.under.holds, at.in_frame)
-  arrives_by true is (way.Goes target on jumped) ran form so = absurd (return_lands setting.image frame s.pc a instr_so target on jumped (is_return instr_so frame a is) ran)
+  arrives_by true is (way.Goes target on jumped) ran form so = absurd (return_lands setting.image frame s.pc (in_front setting a s.pc instr_so) instr_so target on jumped (is_return instr_so frame a is) ran)
   arrives_by false is (way.Lands targets b) ran form so =
       let to = effect.1.pc in
       limited_is setting.limits.targets targets (onward.Lands targets b) ArrivesAt (beyond targets refl)
@@ -115,7 +115,9 @@ module _ (laws : Laws) (setting : Setting) (calls : List ℕ) (frame : Frame) (a
       let flow = mcs51_flow setting in
       let accesses = map (accessed s.pc) effect.0 in
       let same = parts_of items_so (step_singles s.pc s.sp (bytes_of instr_so) accesses effect.1.pc) t effect.1 is in
-      let form = laws.instructions.form framed a setting.image s.pc instr_so at.stands.form at.fits at.setting_so.program.bytes in
+      let b = in_front setting a s.pc instr_so in
+      let formed = laws.fronts.form setting.image setting.promises framed a s.pc instr_so at.stands.form in
+      let form = laws.instructions.form framed b setting.image s.pc instr_so formed at.fits at.setting_so.program.bytes in
       let shown = way_shown framed first ran_so.items s.pc ran_so.way (going_to (following s.pc instr_so) s) effect at.runs in
       let work = work_at known_joined flow s.pc calls frame a (Some instr_so) in
       let LandsAt = Lands (mcs51_machine setting.image) (mcs51_analysis setting) Covers (At s.pc calls frame) work s first in

@@ -1,5 +1,5 @@
 -- The laws of the MCS-51 for an analysis.
-use Rattle.std.proofs.Common.{◌≡◌, true, false, ℕ, ◌+◌, ◌%◌, ◌<◌, Option, None, Some, List, [], refl, sym, ap, ◌∙◌, subst, arith}
+use Rattle.std.proofs.Common.{◌≡◌, true, false, ℕ, ◌+◌, ◌%◌, ◌<◌, Option, None, Some, List, [], ◌∷◌, refl, sym, ap, ◌∙◌, subst, arith}
 use Rattle.std.proofs.lemmas.List.Elements.{All-nil}
 use Rattle.call_context.specs.declared.node.Frame.{Frame}
 use Rattle.call_context.specs.declared.node.Node.{Node}
@@ -15,6 +15,7 @@ use Rattle.choosing.specs.Outcome.Outcome.{Next as Onward, Wild as Leaves}
 use Rattle.chip_flow.specs.Along.{IsOnward, ways_formed}
 use Rattle.chip_flow.specs.Opens.{opens_break}
 use Rattle.chip_flow.specs.Posts.{FormsAll, FormsPosts, posts_formed}
+use Rattle.flow_laws.specs.KeptSteps.{kept_lands, kept_resumes}
 use Rattle.flow_laws.specs.Returns.{ReturnsHold, return_resumes}
 use Rattle.chip_flow.specs.Sites.{sites_by}
 use Rattle.chip_flow.specs.Works.{site_of, work_at, work_of}
@@ -28,11 +29,13 @@ use Rattle.mcs51_state.specs.Holding.{Covers, HoldsOf, StandsIn}
 use Rattle.mcs51_state.specs.Known.{Known, is_interrupt, known_joined, known_widened, top_known}
 use Rattle.mcs51_state.specs.Under.{IsUnder}
 use Rattle.mcs51_resume.specs.Resume.{resumed_known}
-use Rattle.mcs51_flow.specs.Running.{ran_of}
+use Rattle.mcs51_kept.specs.Sites.{spoken}
+use Rattle.promises.specs.Keeping.{keeps}
+use Rattle.promises.specs.declared.promise.Promise.{Promise}
 use Rattle.mcs51_flow.specs.declared.setting.Setting.{Setting}
-use Rattle.mcs51_flow.specs.Chip.{IsSetting, mcs51_analysis, mcs51_flow}
+use Rattle.mcs51_flow.specs.Chip.{IsSetting, in_front, kept_ran, mcs51_analysis, mcs51_flow}
 use Rattle.mcs51_flow.specs.Going.{leaves_frame}
-use Rattle.mcs51_flow.specs.Machine.{StepsTo, leaving_of, mcs51_machine}
+use Rattle.mcs51_flow.specs.Machine.{StepsTo, leaving_of, machine_if, machine_under, mcs51_machine}
 use Rattle.mcs51_flow.specs.Marks.{stops}
 use Rattle.mcs51_flow.specs.Standing.{fetched}
 use Rattle.mcs51_flow.proofs.Arriving.{IsAddress, leaves_back, onward_formed}
@@ -66,12 +69,12 @@ wild_told laws setting so (At pc calls frame) a s first why location form covers
     let image = setting.image in
     let work = λ (at : ℕ). work_at known_joined (mcs51_flow setting) at calls frame a (fetched image at) in
     subst (λ w. IsTold (work pc) w) is (subst (λ at. IsTold (work at) (leaving_of cause)) covers.0
-    (told setting calls frame a s first cause (comes laws image so.program (is_interrupt frame) a s first (Leaves cause) (under pc calls frame a s first form covers) choices left step)))
+    (told setting calls frame a s first cause (comes laws setting so.program (is_interrupt frame) a s first (Leaves cause) (under pc calls frame a s first form covers) tt choices left step)))
 wild_told laws setting so (Exit pc frame) a s first why location form covers step = absurd location
 
 lands_by : Laws → (setting : Setting) → IsSetting setting
     → (calls : List ℕ) (frame : Frame) (a : Known) (s : ChipState) (first : Option ChipState) (items_so : List Single) (t : ChipState)
-    → IsUnder (is_interrupt frame) a s first → StandsIn frame first → Comes setting.image (is_interrupt frame) a s first (Onward items_so t)
+    → IsUnder (is_interrupt frame) a s first → StandsIn frame first → Comes setting (is_interrupt frame) a s first (Onward items_so t)
     → (work_at known_joined (mcs51_flow setting) s.pc calls frame a (fetched setting.image s.pc)).opens ≡ []
     → Lands (mcs51_machine setting.image) (mcs51_analysis setting) Covers (At s.pc calls frame) (work_at known_joined (mcs51_flow setting) s.pc calls frame a (fetched setting.image s.pc)) s first items_so t
 lands_by laws setting so calls frame a s first items_so t stands in_frame (entered coming_so comes_so is) none =
@@ -87,16 +90,17 @@ lands : Laws → (setting : Setting) → IsSetting setting
     → (node : Node) (a : Known) (s : ChipState) (first : Option ChipState) (items_so : List Single) (t : ChipState)
     → IsLocation node
     → HasChipForm node a → Covers node a s first → StepsTo setting.image s (Next items_so t)
+    → keeps (spoken setting.image) setting.promises items_so ≡ true
     → (work_of known_joined (mcs51_flow setting) (One node) a None).opens ≡ []
     → Lands (mcs51_machine setting.image) (mcs51_analysis setting) Covers node (work_of known_joined (mcs51_flow setting) (One node) a None) s first items_so t
-lands laws setting so (At pc calls frame) a s first items_so t location form covers (choices, left, step) none =
+lands laws setting so (At pc calls frame) a s first items_so t location form covers (choices, left, step) kept none =
     let image = setting.image in
     let stands = under pc calls frame a s first form covers in
     let work = λ (at : ℕ). work_at known_joined (mcs51_flow setting) at calls frame a (fetched image at) in
     subst (λ at. (work at).opens ≡ [] → Lands (mcs51_machine image) (mcs51_analysis setting) Covers (At at calls frame) (work at) s first items_so t) covers.0
     (lands_by laws setting so calls frame a s first items_so t stands covers.2
-    (comes laws image so.program (is_interrupt frame) a s first (Onward items_so t) stands choices left step)) none
-lands laws setting so (Exit pc frame) a s first items_so t location form covers step none = absurd location
+    (comes laws setting so.program (is_interrupt frame) a s first (Onward items_so t) stands kept choices left step)) none
+lands laws setting so (Exit pc frame) a s first items_so t location form covers step kept none = absurd location
 
 -- RETURNS
 
@@ -132,8 +136,10 @@ module _ (laws : Laws) (setting : Setting) (so : IsSetting setting) where
       → IsOnward IsAddress (IsKnown (is_interrupt frame)) ((mcs51_flow setting).followed frame a pc instr_so).onward
   onward_known pc frame a form instr_so is =
       let framed = is_interrupt frame in
-      let way = laws.instructions.form framed a setting.image pc instr_so form (instr_found laws setting.image so.program pc instr_so is) so.program.bytes in
-      onward_formed laws framed (leaves_frame frame a instr_so) setting.limits.targets (following pc instr_so) (ran_of setting.image framed pc a instr_so).way (following_below pc instr_so) way
+      let b = in_front setting a pc instr_so in
+      let formed = laws.fronts.form setting.image setting.promises framed a pc instr_so form in
+      let way = laws.instructions.form framed b setting.image pc instr_so formed (instr_found laws setting.image so.program pc instr_so is) so.program.bytes in
+      onward_formed laws framed (leaves_frame frame a instr_so) setting.limits.targets (following pc instr_so) (kept_ran setting framed pc a instr_so).way (following_below pc instr_so) way
 
   -- RETI alone leaves a frame, and that has a stack pointer
   entry_of : (frame : Frame) (a : Known) (instr_so : Instr) → leaves_frame frame a instr_so ≡ true → HasEntry frame
@@ -163,7 +169,7 @@ module _ (laws : Laws) (setting : Setting) (so : IsSetting setting) where
                 node.0,
                 node.3,
                 entry_of frame a instr_so
-                    (leaves_back (ran_of setting.image framed pc a instr_so).way (leaves_frame frame a instr_so) setting.limits.targets (following pc instr_so) b leaves),
+                    (leaves_back (kept_ran setting framed pc a instr_so).way (leaves_frame frame a instr_so) setting.limits.targets (following pc instr_so) b leaves),
               ),
               known,
             );
@@ -205,16 +211,42 @@ orderly laws setting so =
       opens_break = opens_break (mcs51_analysis setting) known_joined (mcs51_flow setting) (λ pc calls frame a form. location_breaks laws setting so.program pc calls frame a);
     }
 
-pub lawful : Laws → (setting : Setting) → IsSetting setting → IsLawful (mcs51_machine setting.image) (mcs51_analysis setting) Covers
+-- without promises each step keeps them
+lawful_by : Laws → (setting : Setting) → IsSetting setting → (promises : List Promise) → promises ≡ setting.promises
+    → IsLawful (machine_under setting.image promises) (mcs51_analysis setting) Covers
 unfolding mcs51_machine mcs51_analysis
-lawful laws setting so =
+lawful_by laws setting so [] is =
     let states = laws.states in
     record {
       first_is_location = tt;
       first_frame = refl;
       covers_reset = states.reset;
       wild_is_told = wild_told laws setting so;
-      step_lands = lands laws setting so;
+      step_lands = λ node a s first items_so t location form covers step none.
+          lands laws setting so node a s first items_so t location form covers step
+          (subst (λ list. keeps (spoken setting.image) list items_so ≡ true) is (laws.fronts.none setting.image (Onward items_so t))) none;
       return_resumes = return_resumes (mcs51_machine setting.image) (mcs51_analysis setting) Covers known_joined (mcs51_flow setting) (returns_hold laws setting);
       covers_more = λ node a b s first f g within covers. states.more node a b s first within covers;
     }
+lawful_by laws setting so (promise ∷ promises) is =
+    let states = laws.states in
+    let keeps_all = keeps (spoken setting.image) (promise ∷ promises) in
+    let machine = mcs51_machine setting.image in
+    let resumes = return_resumes machine (mcs51_analysis setting) Covers known_joined (mcs51_flow setting) (returns_hold laws setting) in
+    record {
+      first_is_location = tt;
+      first_frame = refl;
+      covers_reset = states.reset;
+      wild_is_told = λ node a s first why location form covers step. wild_told laws setting so node a s first why location form covers step.0;
+      step_lands = λ node a s first items_so t location form covers step none.
+          kept_lands keeps_all (λ s why. true) machine (mcs51_analysis setting) Covers
+          (lands laws setting so node a s first items_so t location form covers step.0
+          (subst (λ list. keeps (spoken setting.image) list items_so ≡ true) is step.1) none);
+      return_resumes = λ node exit a x f first t location exits form exit_form covers left.
+          kept_resumes keeps_all (λ s why. true) machine (mcs51_analysis setting) Covers
+          (resumes node exit a x f first t location exits form exit_form covers left);
+      covers_more = λ node a b s first f g within covers. states.more node a b s first within covers;
+    }
+
+pub lawful : Laws → (setting : Setting) → IsSetting setting → IsLawful (machine_if setting) (mcs51_analysis setting) Covers
+lawful laws setting so = lawful_by laws setting so setting.promises refl

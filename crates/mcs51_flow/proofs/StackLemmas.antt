@@ -30,7 +30,7 @@ use Rattle.mcs51_jumps.specs.Jumps.{bit_items, clearing_items}
 use Rattle.mcs51_control.specs.Returning.{below_top}
 use Rattle.mcs51_flow.specs.Running.{Ran, items_of, ran_from, ran_of}
 use Rattle.mcs51_flow.specs.declared.setting.Setting.{Setting}
-use Rattle.mcs51_flow.specs.Chip.{mcs51_analysis, mcs51_flow}
+use Rattle.mcs51_flow.specs.Chip.{in_front, mcs51_analysis, mcs51_flow}
 
 abbrev IsByteSet : Set → Type 0
 IsByteSet (B values) = Unit {0}
@@ -139,7 +139,7 @@ shows_bytes : (setting : Setting) → ShowsStacks IsByteSet (mcs51_flow setting)
 shows_bytes setting = record {
   stack = λ a. tt;
   entry = λ pc coming. (tt, (tt, (tt, tt)));
-  accesses = λ frame a pc instr. ran_bytes setting.image (is_interrupt frame) pc (following pc instr) a instr;
+  accesses = λ frame a pc instr. ran_bytes setting.image (is_interrupt frame) pc (following pc instr) (in_front setting a pc instr) instr;
 }
 
 pub no_word_stack : (setting : Setting) (unit : WorkUnit) (a : Known) (exit : Option Known) (pc : ℕ) (values : Form)

@@ -26,12 +26,12 @@ use Rattle.mcs51_chip.specs.Step.{Effect, Outcome, entered as chip_entered, goin
 use Rattle.mcs51_state.specs.Holding.{StandsIn}
 use Rattle.mcs51_state.specs.Known.{Known, is_interrupt, known_joined}
 use Rattle.mcs51_state.specs.Under.{IsFramed, IsUnder}
+use Rattle.mcs51_kept.specs.Keeping.{IsKept}
 use Rattle.mcs51_entry.specs.declared.coming.Coming.{Coming}
 use Rattle.mcs51_entry.specs.Coming.{ComesSo}
 use Rattle.mcs51_flow.specs.Doing.{RunsSo}
-use Rattle.mcs51_flow.specs.Running.{ran_of}
 use Rattle.mcs51_flow.specs.declared.setting.Setting.{Setting}
-use Rattle.mcs51_flow.specs.Chip.{mcs51_analysis, mcs51_flow}
+use Rattle.mcs51_flow.specs.Chip.{in_front, kept_ran, mcs51_analysis, mcs51_flow}
 use Rattle.mcs51_flow.specs.Going.{leaves_frame}
 use Rattle.mcs51_flow.specs.Machine.{leaving_of}
 use Rattle.mcs51_flow.specs.Standing.{fetched}
@@ -75,34 +75,42 @@ framed_by (Irq vector sp level) None stands_so = absurd stands_so
 framed_by (Irq vector sp level) (Some f) stands_so = tt
 
 -- what a step comes to: the entry of an interrupt, an instruction, or none
-pub data Comes (image : List (Option ℕ)) (framed : Bool) (a : Known) (s : ChipState) (first : Option ChipState) (outcome : Outcome) : Type 0 where
-  entered : (coming_so : Coming) → ComesSo a s coming_so → outcome ≡ chip_entered s coming_so.source → Comes image framed a s first outcome
-  ran : (instr_so : Instr) (effect : Effect) → fetched image s.pc ≡ Some instr_so → IsInstr instr_so → MayDo image s instr_so effect
-      → RunsSo framed first s.pc (ran_of image framed s.pc a instr_so) (going_to (following s.pc instr_so) s) effect
-      → outcome ≡ stepped s (RanOne s.pc (bytes_of instr_so) ∷ []) effect → Comes image framed a s first outcome
-  refused : (refusal : NoInstr) → fetched image s.pc ≡ None → outcome ≡ Leaves refusal → Comes image framed a s first outcome
+pub data Comes (setting : Setting) (framed : Bool) (a : Known) (s : ChipState) (first : Option ChipState) (outcome : Outcome) : Type 0 where
+  entered : (coming_so : Coming) → ComesSo a s coming_so → outcome ≡ chip_entered s coming_so.source → Comes setting framed a s first outcome
+  ran : (instr_so : Instr) (effect : Effect) → fetched setting.image s.pc ≡ Some instr_so → IsInstr instr_so
+      → MayDo setting.image s instr_so effect
+      → RunsSo framed first s.pc (kept_ran setting framed s.pc a instr_so) (going_to (following s.pc instr_so) s) effect
+      → outcome ≡ stepped s (RanOne s.pc (bytes_of instr_so) ∷ []) effect → Comes setting framed a s first outcome
+  refused : (refusal : NoInstr) → fetched setting.image s.pc ≡ None → outcome ≡ Leaves refusal → Comes setting framed a s first outcome
 
-leads : Laws → (image : List (Option ℕ)) → IsProgram image
+leads : Laws → (setting : Setting) → IsProgram setting.image
     → (framed : Bool) (a : Known) (s : ChipState) (first : Option ChipState) (outcome : Outcome)
-    → IsUnder framed a s first → MayLead image s outcome → Comes image framed a s first outcome
-leads laws image program framed a s first outcome under (Enters source there is) =
+    → IsUnder framed a s first → IsKept setting.image setting.promises outcome → MayLead setting.image s outcome
+    → Comes setting framed a s first outcome
+leads laws setting program framed a s first outcome under kept (Enters source there is) =
     let (coming_so, same, so) = laws.entries.comes framed a s first source under there in
     entered coming_so so (is ∙ ap (chip_entered s) (sym same))
-leads laws image program framed a s first outcome under (Runs instr_so len effect standing (choices, rest, does) is) =
+leads laws setting program framed a s first outcome under kept (Runs instr_so len effect standing (choices, rest, does) is) =
+    let image = setting.image in
     let found : decoded image s.pc ≡ Ok (instr_so, len) = sym (laws.decoding.one image s.pc (Ok (instr_so, len)) program.size program.bytes standing) in
     let fits = standing_is_instr image s.pc instr_so len standing in
+    let b = in_front setting a s.pc instr_so in
+    let stands = laws.fronts.holds image setting.promises framed a s first instr_so effect under (choices, rest, does)
+    (subst (IsKept image setting.promises) is kept) in
     ran instr_so effect (one_found (decoded image s.pc) instr_so len (fetched image s.pc) found (fetching_at image s.pc)) fits (choices, rest, does)
-    ((laws.instructions.runs framed a s first image s.pc instr_so under fits program.bytes).each choices rest effect does) is
-leads laws image program framed a s first outcome under (NoneStands refusal decodes is) =
+    ((laws.instructions.runs framed b s first image s.pc instr_so stands fits program.bytes).each choices rest effect does) is
+leads laws setting program framed a s first outcome under kept (NoneStands refusal decodes is) =
+    let image = setting.image in
     let none : decoded image s.pc ≡ Err refusal = sym (laws.decoding.one image s.pc (Err refusal) program.size program.bytes decodes) in
     refused refusal (none_found (decoded image s.pc) refusal (fetched image s.pc) none (fetching_at image s.pc)) is
 
-pub comes : Laws → (image : List (Option ℕ)) → IsProgram image
+pub comes : Laws → (setting : Setting) → IsProgram setting.image
     → (framed : Bool) (a : Known) (s : ChipState) (first : Option ChipState) (outcome : Outcome)
-    → IsUnder framed a s first → (choices left : List ℕ) → step_of image s choices ≡ Some (outcome, left)
-    → Comes image framed a s first outcome
-comes laws image program framed a s first outcome under choices left step =
-    leads laws image program framed a s first outcome under ((laws.steps.lead image s program.size program.bytes).each choices left outcome step)
+    → IsUnder framed a s first → IsKept setting.image setting.promises outcome
+    → (choices left : List ℕ) → step_of setting.image s choices ≡ Some (outcome, left)
+    → Comes setting framed a s first outcome
+comes laws setting program framed a s first outcome under kept choices left step =
+    leads laws setting program framed a s first outcome under kept ((laws.steps.lead setting.image s program.size program.bytes).each choices left outcome step)
 
 -- OUT OF THE MODEL
 
@@ -112,7 +120,7 @@ unfolding chip_entered
 entered_onward s source refusal is = absurd (cc)
 
 pub told : (setting : Setting) (calls : List ℕ) (frame : Frame) (a : Known) (s : ChipState) (first : Option ChipState) (refusal : NoInstr)
-    → Comes setting.image (is_interrupt frame) a s first (Leaves refusal)
+    → Comes setting (is_interrupt frame) a s first (Leaves refusal)
     → IsTold (work_at known_joined (mcs51_flow setting) s.pc calls frame a (fetched setting.image s.pc)) (leaving_of refusal)
 told setting calls frame a s first refusal (entered coming_so so is) = absurd (entered_onward s coming_so.source refusal is)
 told setting calls frame a s first refusal (ran instr_so effect found fits may so is) = absurd (cc)
@@ -142,7 +150,7 @@ location_breaks laws setting program pc calls frame a =
           absurd (let both = sym none ∙ found in cc);
       targets = λ instr_so values found is.
           let (len, standing) = standing_of laws image program pc instr_so (fetched image pc) found (fetching_at image pc) in
-          let (leads, many) = open_leads (ran_of image (is_interrupt frame) pc a instr_so).way (leaves_frame frame a instr_so) setting.limits.targets (following pc instr_so) values is in
+          let (leads, many) = open_leads (kept_ran setting (is_interrupt frame) pc a instr_so).way (leaves_frame frame a instr_so) setting.limits.targets (following pc instr_so) values is in
           record { instr = instr_so; len = len; standing = standing; next = leads; many = many };
       store = λ instr_so cause found is. absurd (cc);
     }

@@ -1,5 +1,5 @@
 -- What an analysis makes of a program of the MCS-51, in sets.
-use Rattle.std.specs.Prelude.{◌≡◌, ◌≤◌, ℕ, None, List, [], ◌∷◌, ◌++◌}
+use Rattle.std.specs.Prelude.{◌≡◌, ◌≤◌, ℕ, Bool, None, List, [], ◌∷◌, ◌++◌}
 use Rattle.call_context.specs.declared.node.Frame.{Frame}
 use Rattle.call_context.specs.declared.node.Frame.TheVariants.{Base}
 use Rattle.call_context.specs.declared.node.Node.TheVariants.{At}
@@ -25,6 +25,7 @@ use Rattle.mcs51_entry.specs.declared.coming.Coming.{Coming}
 use Rattle.mcs51_entry.specs.Coming.{comings_of, frame_of_coming}
 use Rattle.mcs51_entry.specs.Entering.{entered_known, entry_accesses, entry_edge}
 use Rattle.mcs51_resume.specs.Resume.{resumed_known}
+use Rattle.mcs51_kept.specs.Front.{front}
 use Rattle.mcs51_flow.specs.declared.ran.Way.{Way}
 use Rattle.mcs51_flow.specs.declared.ran.Way.TheVariants.{Lands, Goes}
 use Rattle.mcs51_flow.specs.Running.{Ran, ran_of}
@@ -35,6 +36,14 @@ use Rattle.mcs51_flow.specs.Marks.{stops}
 use Rattle.mcs51_flow.specs.Standing.{fetched}
 
 -- WHAT IS MADE OF WHAT IS KNOWN
+
+-- what is known in front of an instruction whose step keeps what is promised
+abbrev pub in_front : Setting → Known → (pc : ℕ) → Instr → Known
+in_front setting a pc instr = front setting.image setting.promises a pc instr
+
+-- what the instruction makes of that
+abbrev pub kept_ran : Setting → (framed : Bool) → (pc : ℕ) → Known → Instr → Ran
+kept_ran setting framed pc a instr = ran_of setting.image framed pc (in_front setting a pc instr) instr
 
 -- an instruction of the chip stores nothing into the program
 abbrev pub followed_by : Setting → Frame → Known → (pc : ℕ) → Instr → Ran → Followed Known
@@ -55,7 +64,7 @@ mcs51_flow setting = record {
   fetched = fetched setting.image;
   bytes = bytes_of;
   effect = effect_on_calls;
-  followed = λ frame a pc instr. followed_by setting frame a pc instr (ran_of setting.image (is_interrupt frame) pc a instr);
+  followed = λ frame a pc instr. followed_by setting frame a pc instr (kept_ran setting (is_interrupt frame) pc a instr);
   comings = comings_of;
   entry_items = entry_items;
   entry_opens = λ pc coming. [];
@@ -83,7 +92,7 @@ LeadsTo (Goes target on jumped) values = ⊥
 abbrev pub mcs51_causes : Setting → Causes Known Instr
 mcs51_causes setting = record {
   Stands = Stands setting.image;
-  GoesTo = λ frame a pc instr values. LeadsTo (ran_of setting.image (is_interrupt frame) pc a instr).way values;
+  GoesTo = λ frame a pc instr values. LeadsTo (kept_ran setting (is_interrupt frame) pc a instr).way values;
   targets = setting.limits.targets;
   Hits = λ frame a pc values. ⊥;
 }

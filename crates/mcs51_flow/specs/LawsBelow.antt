@@ -8,6 +8,7 @@ use Rattle.mcs51_state.specs.Laws.{StateLaws}
 use Rattle.mcs51_entry.specs.Laws.{InterruptLaws}
 use Rattle.mcs51_control.specs.Laws.{ReturnLaws}
 use Rattle.mcs51_resume.specs.Laws.{ResumptionLaws}
+use Rattle.mcs51_kept.specs.Laws.{FrontLaws}
 use Rattle.mcs51_flow.specs.Laws.{RunLaws}
 
 pub record Laws : Type 0 where
@@ -19,4 +20,5 @@ pub record Laws : Type 0 where
   pub entries : InterruptLaws
   pub returns : ReturnLaws
   pub resumptions : ResumptionLaws
+  pub fronts : FrontLaws
   pub instructions : RunLaws

@@ -1,6 +1,6 @@
 //! The chip.
 
-ghost use Rattle.std.specs.Prelude.{◌≡◌, ◌≤◌, IfOk, IfSome};
+ghost use Rattle.std.specs.Prelude.{◌≡◌, ◌≤◌, [], IfOk, IfSome};
 ghost use Rattle.image.specs.Kept.{IsReadUnder};
 ghost use Rattle.image.specs.declared.rule_set.Rules.{Rules};
 ghost use Rattle.mcs51_decode.specs.Fitting.{IsInstr};
@@ -14,7 +14,7 @@ use crate::setting::Setting;
 use crate::text::Mcs51Text;
 use analysis_limits::Limits;
 use arrayvec::ArrayString;
-use call_context::{Node, Unit};
+use call_context::{Node, Sequence, Unit};
 use chip_analysis::{Chip, Work};
 use chip_flow::{frame_of, start_node, work};
 use image::Image;
@@ -22,6 +22,7 @@ use item_lines::InstrText;
 use mcs51_decode::{Instr, decode};
 use mcs51_state::State;
 use no_memory::Memory;
+use promises::Promise;
 use std::alloc::Global;
 use std::marker::Model;
 
@@ -48,15 +49,34 @@ impl Model for Mcs51Chip {
 
 impl Mcs51Chip {
     /// The chip with this program, which was read under its rules, with call strings of so many sites, and so many targets
-    /// of an instruction that are followed.
+    /// of an instruction that are followed. Nothing is promised of its steps.
     pub fn new(alloc: Global, image: Image, limits: Limits) -> Result<Mcs51Chip, Memory>
         requires read { IsReadUnder Rules.Mcs51 image }
         requires calls { limits.calls ≤ 8 }
-        ensures { IfOk result (λ chip. chip ≡ record { image = image; limits = limits }) }
+        ensures { IfOk result (λ chip. chip ≡ record { image = image; limits = limits; promises = [] }) }
     {
         let marks = marks_of(alloc, &image)?;
-        let setting = Setting { image, limits };
+        let promises = Sequence::new(alloc);
+        let setting = Setting {
+            image,
+            limits,
+            promises,
+        };
         Ok(Mcs51Chip { setting, marks })
+    }
+
+    /// The same where this is promised of its steps.
+    pub fn with_promises(self, promises: Sequence<Promise>) -> Mcs51Chip
+        ensures { result ≡ record self { promises = promises } }
+    {
+        let Mcs51Chip { setting, marks } = self;
+        let Setting { image, limits, .. } = setting;
+        let setting = Setting {
+            image,
+            limits,
+            promises,
+        };
+        Mcs51Chip { setting, marks }
     }
 
     /// The program was read under the chip's rules, and call strings have at most eight sites.
@@ -78,6 +98,13 @@ impl Mcs51Chip {
         ensures { result.now ≡ self.now.limits }
     {
         &self.setting.limits
+    }
+
+    /// What is promised of its steps.
+    pub(crate) fn promises(&self) -> &[Promise]
+        ensures { result.now ≡ self.now.promises }
+    {
+        self.setting.promises.as_slice()
     }
 
     /// The instruction at an address, if one stands there.

@@ -1,7 +1,7 @@
 //! What the chip makes of what is known, for the works of its units.
 
-ghost use Rattle.std.specs.Prelude.{◌≡◌};
-ghost use Rattle.mcs51_flow.specs.Chip.{mcs51_flow};
+ghost use Rattle.std.specs.Prelude.{◌≡◌, IfOk};
+ghost use Rattle.mcs51_flow.specs.Chip.{kept_ran, mcs51_flow};
 ghost use Rattle.mcs51_flow.specs.Going as going;
 ghost use Rattle.mcs51_state.specs.Known.{is_interrupt as the_interrupt, known_joined};
 
@@ -10,6 +10,7 @@ use crate::kept::{Abs, Kept};
 use crate::labels::effect_on_calls;
 use crate::ran::{Ran, Way};
 use crate::running::run;
+use abs_pages::CellPages;
 use call_context::{Frame, InstrBytes, Item, Sequence, Set};
 use chip_analysis::Work;
 use chip_flow::{CallEffect, Flow, Followed, Onward, add_handler};
@@ -18,6 +19,7 @@ use mcs51_decode::{Instr, encode};
 use mcs51_entry::{
     Coming, add_entry_items, comings, entered, frame_of, handler_of, interrupt_laws,
 };
+use mcs51_kept::front;
 use mcs51_resume::resume;
 use no_memory::Memory;
 use std::alloc::Global;
@@ -69,6 +71,23 @@ fn onward_by(way: Way<Kept>, leaves: bool, limit: u32, behind: u16) -> Onward<Ke
     }
 }
 
+/// What an instruction makes of what is known of a state from which it makes a step that keeps what is promised.
+fn run_kept(
+    chip: &Mcs51Chip,
+    alloc: Global,
+    framed: bool,
+    at: &Abs,
+    pc: u16,
+    instr: &Instr,
+) -> Result<Ran<CellPages>, Memory>
+    ensures { IfOk result (λ ran. ran ≡ kept_ran chip.now framed pc at.now instr.now) }
+{
+    match front(alloc, chip.image(), chip.promises(), at, pc, instr)? {
+        Some(known) => run(alloc, chip.image(), framed, &known, pc, instr),
+        None => run(alloc, chip.image(), framed, at, pc, instr),
+    }
+}
+
 impl Flow for Mcs51Chip {
     type State = Abs;
 
@@ -114,7 +133,7 @@ impl Flow for Mcs51Chip {
         instr: &Instr,
     ) -> Result<Followed<Abs>, Memory> {
         self.keeps_rules();
-        let Ran { items, way } = run(alloc, self.image(), is_interrupt(frame), at, pc, instr)?;
+        let Ran { items, way } = run_kept(self, alloc, is_interrupt(frame), at, pc, instr)?;
         let leaves = leaves_frame(frame, at, instr);
         Ok(Followed {
             accesses: items,

@@ -4,12 +4,13 @@ ghost use Rattle.mcs51_state.specs.Holding.{Covers};
 ghost use Rattle.mcs51_flow.specs.Chip.{IsSetting};
 ghost use Rattle.mcs51_flow.specs.LawsBelow.{Laws};
 ghost use Rattle.mcs51_flow.specs.Laws.{RunLaws};
-ghost use Rattle.mcs51_flow.specs.Machine.{mcs51_machine};
+ghost use Rattle.mcs51_flow.specs.Machine.{machine_if, mcs51_machine};
 
 use crate::chip::Mcs51Chip;
 use crate::kept::Kept;
 use chip_analysis::OrderlyChip;
-use chip_law::LawfulChip;
+use chip_law::{LawfulChip, RunningChip};
+use image::Image;
 use irq_frames::known_laws;
 use mcs51_alu::{accumulators_do, accumulators_hold};
 use mcs51_chip::{ChipState, step_laws};
@@ -17,6 +18,7 @@ use mcs51_control::{return_laws, transfers_do};
 use mcs51_decode::decoding_laws;
 use mcs51_entry::interrupt_laws;
 use mcs51_jumps::{bits_do, bits_keep_form, jumps_do, jumps_keep_form};
+use mcs51_kept::front_laws;
 use mcs51_memories::{memories_do, memories_keep_form};
 use mcs51_moves::{moves_do, moves_keep_form};
 use mcs51_resume::resumption_laws;
@@ -57,6 +59,7 @@ fn laws_below()
     interrupt_laws();
     return_laws();
     resumption_laws();
+    front_laws();
     instructions_do();
 }
 
@@ -81,11 +84,19 @@ impl OrderlyChip for Mcs51Chip {
 impl LawfulChip for Mcs51Chip {
     type State = ChipState;
 
-    ghost machine = { λ setting. mcs51_machine setting.image };
+    ghost machine = { machine_if };
 
     ghost covers = { λ setting. Covers };
 
     fn laws() {
         laws_below();
     }
+}
+
+impl RunningChip for Mcs51Chip {
+    type Program = Image;
+
+    type State = ChipState;
+
+    ghost machine = { mcs51_machine };
 }

@@ -12,7 +12,7 @@
 //!   ([`instructions_do`]).
 //! - Each call of [`Mcs51Chip`] gives exactly what `specs/Chip.antt` says.
 //! - [`LawfulChip`](chip_law::LawfulChip): the start stands for each reset state, the work of a unit for each step of the
-//!   chip from a state that its input stands for, and the states are in order. An open is left only where a stated limit
+//!   chip from a state that its input stands for and that keeps what is promised, and the states are in order. An open is left only where a stated limit
 //!   is broken.
 //! - A stack grows by bytes: no work shows a word as a stack pointer ([`stacks_grow_by_bytes`]).
 //! - [`LawfulText`](state_text::LawfulText): each state in form is read again from its text, no other text is read, and no

@@ -16,3 +16,4 @@ pub mod Showing
 pub mod ReadLists
 pub mod WrittenWords
 pub mod WordsInMemory
+pub mod Doing

@@ -5,4 +5,5 @@ pub mod StateFacts
 pub mod Operands
 pub mod Formats
 pub mod RelationFacts
+pub mod Doing
 pub mod Laws

@@ -1,10 +1,8 @@
 -- Where steps land, and the forms of what is posted.
-use Rattle.std.proofs.Common.{◌≡◌, ◌⊎◌, ℕ, ◌+◌, ◌-◌, ◌*◌, ◌/◌, ◌%◌, ◌<◌, ◌==◌, ◌++◌, nat_lt, Bool, true, false, Option, None, Some, List, [], ◌∷◌, length, slice_index, append_assoc, refl, sym, ap, ◌∙◌, subst, arith, Contains, IfSome}
-use Rattle.std.proofs.lemmas.Bool.{cond_both, cond-true, cond-false}
+use Rattle.std.proofs.Common.{◌≡◌, ℕ, ◌+◌, ◌-◌, ◌*◌, ◌/◌, ◌%◌, ◌<◌, ◌==◌, nat_lt, Bool, true, false, Option, None, Some, List, [], ◌∷◌, length, refl, sym, ap, ◌∙◌, subst, arith, IfSome}
+use Rattle.std.proofs.lemmas.Bool.{cond_both}
 use Rattle.call_context.specs.declared.node.Frame.{Frame}
-use Rattle.call_context.specs.declared.node.Node.{Node}
-use Rattle.call_context.specs.declared.node.Node.TheVariants.{At, Exit}
-use Rattle.call_context.specs.Showing.{AreShowing}
+use Rattle.call_context.specs.declared.node.Node.TheVariants.{At}
 use Rattle.chip_numbers.specs.Single.{Single}
 use Rattle.chip_numbers.specs.Single.Single.{Stack as Stood}
 use Rattle.chip_analysis.specs.declared.chip.Work.{Work}
@@ -14,16 +12,13 @@ use Rattle.flow_laws.specs.Landing.{Arrives, entry_lands as generic_entry_lands,
 use Rattle.flow_laws.specs.Landing.Arrives.{at_exit, beyond, on_way}
 use Rattle.chip_flow.specs.Works.{site_of, work_at}
 use Rattle.chip_flow.specs.declared.going.Onward.{Onward as GoesOnward}
-use Rattle.plain_lemmas.specs.Members.{in_one}
 use Rattle.std.specs.List.{slice_index_or}
 use Rattle.choosing.specs.Outcome.Outcome.{Next as Onward}
 use Rattle.value_bits.specs.declared.tri.Tri.{Tri}
 use Rattle.value_bits.specs.declared.tri.Tri.TheVariants.{Zero, One, Either}
 use Rattle.value_bits.specs.Bits.{Agrees}
 use Rattle.value_bits.specs.Flags.{IsFlag}
-use Rattle.value_set.specs.declared.form.Form.{Form}
-use Rattle.value_set.specs.Form.{Has, IsNormal}
-use Rattle.value_set.specs.Remainders.{HasRemainder}
+use Rattle.value_set.specs.Form.{Has}
 use Rattle.msp430_decode.specs.declared.instr.Condition.{Condition}
 use Rattle.msp430_decode.specs.declared.instr.Instr.{Instr}
 use Rattle.msp430_decode.specs.declared.instr.Instr.TheVariants as instr
@@ -31,13 +26,12 @@ use Rattle.msp430_decode.specs.declared.instr.Destination.{Destination}
 use Rattle.msp430_decode.specs.declared.instr.Destination.TheVariants as destination
 use Rattle.msp430_decode.specs.declared.instr.Operation.{Operation}
 use Rattle.msp430_decode.specs.declared.instr.Register.TheVariants.{Sr}
-use Rattle.msp430_decode.specs.Operands.{IsSource}
 use Rattle.msp430_decode.specs.declared.instr.SingleOperation.{SingleOperation}
 use Rattle.msp430_decode.specs.declared.instr.Source.{Source}
 use Rattle.msp430_decode.specs.declared.instr.Source.TheVariants as source
 use Rattle.msp430_decode.specs.declared.instr.Width.{Width}
 use Rattle.msp430_decode.specs.declared.instr.SingleOperation.TheVariants.{Rrc, Swpb, Rra, Sxt, Push, Call}
-use Rattle.msp430_decode.specs.Table.{IsInstr, bytes_of, extension_words, length_of, target_of}
+use Rattle.msp430_decode.specs.Table.{IsInstr, extension_words, length_of, target_of}
 use Rattle.msp430_chip.specs.declared.device.Device.{Device}
 use Rattle.msp430_chip.specs.declared.state.ChipState.{ChipState}
 use Rattle.msp430_chip.specs.Interrupts.{entry, first_hit}
@@ -47,24 +41,20 @@ use Rattle.msp430_chip.specs.State.{allows_interrupts, register_of, IsChipState}
 use Rattle.msp430_chip.specs.Step.{Left}
 use Rattle.msp430_decode.specs.declared.instr.Width.TheVariants.{Word}
 use Rattle.msp430_state.specs.declared.fact.FlagFact.{FlagFact}
-use Rattle.msp430_state.specs.Forms.{HasChipForm, IsEvenWord, IsFact, IsKnown}
+use Rattle.msp430_state.specs.Forms.{IsEvenWord, IsFact, IsKnown}
 use Rattle.msp430_state.specs.Holding.{Covers, HoldsOf, HoldsOfParts, StandsIn}
 use Rattle.msp430_state.specs.Known.{Known, is_interrupt, known_joined}
 use Rattle.msp430_state.specs.Status.{common_bit}
-use Rattle.msp430_status.specs.Status.{single_status_worked, status_worked}
-use Rattle.msp430_return.specs.Return.{return_worked}
 use Rattle.msp430_branch.specs.Cuts.{known_cut}
-use Rattle.msp430_alu.specs.Formats.{IsUnder, Worked, push_worked, single_worked, double_worked}
+use Rattle.msp430_alu.specs.Doing.{IsWellMade, here_at}
+use Rattle.msp430_alu.specs.Formats.{IsUnder, Worked, push_worked}
 use Rattle.msp430_alu.specs.Memory.{IsDevice}
 use Rattle.msp430_entry.specs.declared.coming.Coming.{Coming}
-use Rattle.msp430_entry.specs.Entry.{ComesSo, comings_of, entry_items, entry_shows, frame_of_coming}
+use Rattle.msp430_entry.specs.Entry.{ComesSo, entry_shows}
 use Rattle.msp430_flow.specs.declared.setting.Setting.{Setting}
-use Rattle.msp430_flow.specs.Chip.{IsSetting, msp430_analysis, msp430_flow, onward_of}
+use Rattle.msp430_flow.specs.Chip.{IsSetting, in_front, msp430_analysis, msp430_flow, onward_of}
 use Rattle.msp430_flow.specs.Machine.{msp430_machine}
 use Rattle.msp430_flow.specs.Running.{fact_of, followed, gie_of, known_behind, single_or_status, ways_onward, worked}
-use Rattle.msp430_flow.proofs.RegisterViews.{OperandView, TargetView, operand_view, target_view}
-use Rattle.msp430_flow.proofs.RegisterViews.OperandView.{other_operand, status_operand}
-use Rattle.msp430_flow.proofs.RegisterViews.TargetView.{other_target, status_target}
 use Rattle.msp430_flow.specs.LawsBelow.{Laws}
 use Rattle.msp430_flow.proofs.Ways.{onward_cases}
 use Rattle.msp430_flow.proofs.Runs.{IsRun, late_form, width_of}
@@ -72,15 +62,11 @@ use Rattle.msp430_flow.proofs.Stepping.{device_of, done_by_hit, entered_state, e
 
 -- FORMS
 
--- what the work of an instruction rests on
-pub record IsFormed (device : Device) (framed : Bool) (made_so : Worked) : Type 0 where
-  pub after : IsKnown device.ram.lo device.ram.hi framed made_so.after
-  pub next : (to : ℕ) → Has 65536 made_so.next to → IsEvenWord to
-
--- the next addresses are even words
-next_even : Laws → (ahead : ℕ) (next : Form) → ahead % 2 ≡ 0 → IsNormal 65536 next
-    → (ahead % 2 ≡ 0 → HasRemainder 65536 2 0 next) → (to : ℕ) → Has 65536 next to → IsEvenWord to
-next_even laws ahead next even normal rest to has = (laws.known.sets.below 65536 to next normal has, rest even to has)
+-- the next addresses of an instruction are even words
+next_even : Laws → {device : Device} {framed : Bool} {behind : ℕ} {made_so : Worked}
+    → IsWellMade device framed behind made_so → behind % 2 ≡ 0 → (to : ℕ) → Has 65536 made_so.next to → IsEvenWord to
+next_even laws {made_so = made_so} well even to has =
+    (laws.known.sets.below 65536 to made_so.next well.next has, well.even even to has)
 
 behind_even : (pc words : ℕ) → IsEvenWord pc → IsEvenWord ((pc + (2 + 2 * words)) % 65536)
 behind_even pc words h = let even = h.1 in (omega arith, omega arith)
@@ -90,91 +76,54 @@ target_even pc offset h = let even = h.1 in
     cond_both (nat_lt offset 512) ((pc + 2 + 2 * offset) % 65536) ((pc + 2 + 2 * offset + 65536 - 2048) % 65536) IsEvenWord
     (λ e. (omega arith, omega arith)) (λ e. (omega arith, omega arith))
 
-module _ (laws : Laws) (device : Device) (framed : Bool) (a : Known) (pc : ℕ) (is : IsDevice device) (form : IsKnown device.ram.lo device.ram.hi framed a) (even : IsEvenWord pc) where
-  status_form : (operation : Operation) (width : Width) (origin : Source) (target : Destination) → IsSource origin
-      → target ≡ destination.Register Sr
-      → IsFormed device framed (worked device framed a pc (instr.Double operation width origin target))
-  status_form operation width origin target fits status =
-      let i = instr.Double operation width origin (destination.Register Sr) in
-      let len = length_of i in
-      subst (λ t. IsFormed device framed (worked device framed a pc (instr.Double operation width origin t))) (sym status) (record {
-        after = laws.statuses.form device framed a pc len operation width origin is form fits;
-        next = next_even laws ((pc + len) % 65536) (status_worked device framed a pc len operation width origin).next (behind_even pc (length (extension_words i)) even).1
-            (laws.statuses.next device framed a pc len operation width origin) (laws.statuses.even device framed a pc len operation width origin);
-      })
+module _ (laws : Laws) (device : Device) (framed : Bool) (a : Known) (pc : ℕ) (is : IsDevice device) (form : IsKnown device.ram.lo device.ram.hi framed a) where
+  abbrev IsMade : Instr → Type 0
+  IsMade instr_so = IsWellMade device framed ((pc + length_of instr_so) % 65536) (worked device framed a pc instr_so)
 
-  double_form : (operation : Operation) (width : Width) (origin : Source) (target : Destination)
-      → IsInstr (instr.Double operation width origin target) → TargetView target
-      → IsFormed device framed (worked device framed a pc (instr.Double operation width origin target))
-  double_form operation width origin target fits (other_target leaves_so same) =
-      let i = instr.Double operation width origin target in
-      let len = length_of i in
-      subst (IsFormed device framed) (sym (same device framed a pc len operation width origin)) (record {
-        after = laws.doubles.form device framed a pc len operation width origin target is form fits.0 fits.1;
-        next = next_even laws ((pc + len) % 65536) (double_worked device framed a pc len operation width origin target).next (behind_even pc (length (extension_words i)) even).1
-            (laws.doubles.next device framed a pc len operation width origin target is form fits.0 fits.1)
-            (laws.doubles.even device framed a pc len operation width origin target is form fits.0 fits.1);
-      })
-  double_form operation width origin target fits (status_target status) = status_form operation width origin target fits.0 status
+  double_made : (operation : Operation) (width : Width) (origin : Source) (target : Destination)
+      → IsInstr (instr.Double operation width origin target) → IsMade (instr.Double operation width origin target)
+  double_made operation width origin (destination.Register Sr) fits =
+      laws.statuses.made device framed a pc (length_of (instr.Double operation width origin (destination.Register Sr)))
+      operation width origin is form fits.0
+  double_made operation width origin target fits =
+      laws.doubles.made device framed a pc (length_of (instr.Double operation width origin target)) operation width origin
+      target is form fits.0 fits.1
 
-  single_status_form : (operation : SingleOperation) (width : Width)
-      → IsFormed device framed (single_status_worked device framed a pc (length_of (instr.Single operation width (source.Register Sr))) operation width)
-  single_status_form operation width =
-      let i = instr.Single operation width (source.Register Sr) in
-      let len = length_of i in
-      record {
-        after = laws.single_statuses.form device framed a pc len operation width form;
-        next = next_even laws ((pc + len) % 65536) (single_status_worked device framed a pc len operation width).next (behind_even pc (length (extension_words i)) even).1
-            (laws.single_statuses.next device framed a pc len operation width) (laws.single_statuses.even device framed a pc len operation width);
-      }
+  -- an operation that pushes nothing
+  plain_made : (operation : SingleOperation) (width : Width) (operand : Source)
+      → IsInstr (instr.Single operation width operand)
+      → let len = length_of (instr.Single operation width operand) in
+      IsWellMade device framed ((pc + len) % 65536) (single_or_status device framed a pc len operation width operand)
+  plain_made operation width (source.Register Sr) fits =
+      laws.single_statuses.made device framed a pc (length_of (instr.Single operation width (source.Register Sr))) operation
+      width form
+  plain_made operation width operand fits =
+      laws.singles.made device framed a pc (length_of (instr.Single operation width operand)) operation width operand is
+      form fits.0 (width_of operation width operand fits)
 
-  single_form : (operation : SingleOperation) (width : Width) (operand : Source)
-      → IsInstr (instr.Single operation width operand) → OperandView operand
-      → IsFormed device framed (single_or_status device framed a pc (length_of (instr.Single operation width operand)) operation width operand)
-  single_form operation width operand fits (other_operand leaves_so same) =
-      let i = instr.Single operation width operand in
-      let len = length_of i in
-      let wide = width_of operation width operand fits in
-      subst (IsFormed device framed) (sym (same device framed a pc len operation width)) (record {
-        after = laws.singles.form device framed a pc len operation width operand is form fits.0 wide;
-        next = next_even laws ((pc + len) % 65536) (single_worked device framed a pc len operation width operand).next (behind_even pc (length (extension_words i)) even).1
-            (laws.singles.next device framed a pc len operation width operand is form fits.0 wide)
-            (laws.singles.even device framed a pc len operation width operand is form fits.0 wide);
-      })
-  single_form operation width operand fits (status_operand status) =
-      subst (λ o. IsFormed device framed (single_or_status device framed a pc (length_of (instr.Single operation width o)) operation width o)) (sym status)
-      (single_status_form operation width)
-
-  push_form : (operation : SingleOperation) (width : Width) (operand : Source) → IsInstr (instr.Single operation width operand)
-      → IsFormed device framed (push_worked device framed a pc (length_of (instr.Single operation width operand)) operation width operand)
-  push_form operation width operand fits =
-      let i = instr.Single operation width operand in
-      let len = length_of i in
-      record {
-        after = laws.pushes.form device framed a pc len operation width operand is form fits.0;
-        next = next_even laws ((pc + len) % 65536) (push_worked device framed a pc len operation width operand).next (behind_even pc (length (extension_words i)) even).1
-            (laws.pushes.next device framed a pc len operation width operand is form fits.0)
-            (laws.pushes.even device framed a pc len operation width operand is form fits.0);
-      }
-
-  return_form : IsFormed device framed (return_worked device a pc)
-  return_form = record {
-    after = laws.returns.form device framed a pc is form;
-    next = next_even laws 0 (return_worked device a pc).next refl (laws.returns.next device framed a pc is form) (λ _. laws.returns.even device framed a pc is form);
-  }
+  push_made : (operation : SingleOperation) (width : Width) (operand : Source)
+      → IsInstr (instr.Single operation width operand)
+      → let len = length_of (instr.Single operation width operand) in
+      IsWellMade device framed ((pc + len) % 65536) (push_worked device framed a pc len operation width operand)
+  push_made operation width operand fits =
+      laws.pushes.made device framed a pc (length_of (instr.Single operation width operand)) operation width operand is
+      form fits.0
 
   -- what every instruction makes
-  pub worked_formed : (instr_so : Instr) → IsInstr instr_so → IsFormed device framed (worked device framed a pc instr_so)
-  worked_formed (instr.Double operation width origin target) fits = double_form operation width origin target fits (target_view target)
-  worked_formed (instr.Single Push width operand) fits = push_form Push width operand fits
-  worked_formed (instr.Single Call width operand) fits = push_form Call width operand fits
-  worked_formed (instr.Single Rrc width operand) fits = single_form Rrc width operand fits (operand_view operand)
-  worked_formed (instr.Single Swpb width operand) fits = single_form Swpb width operand fits (operand_view operand)
-  worked_formed (instr.Single Rra width operand) fits = single_form Rra width operand fits (operand_view operand)
-  worked_formed (instr.Single Sxt width operand) fits = single_form Sxt width operand fits (operand_view operand)
-  worked_formed (instr.Jump condition offset) fits =
-      record { after = form; next = λ to has. subst IsEvenWord (in_one ((pc + 2) % 65536) to has) (behind_even pc 0 even) }
-  worked_formed instr.ReturnFromInterrupt fits = return_form
+  pub worked_made : (instr_so : Instr) → IsInstr instr_so → IsMade instr_so
+  worked_made (instr.Double operation width origin target) fits = double_made operation width origin target fits
+  worked_made (instr.Single Push width operand) fits = push_made Push width operand fits
+  worked_made (instr.Single Call width operand) fits = push_made Call width operand fits
+  worked_made (instr.Single Rrc width operand) fits = plain_made Rrc width operand fits
+  worked_made (instr.Single Swpb width operand) fits = plain_made Swpb width operand fits
+  worked_made (instr.Single Rra width operand) fits = plain_made Rra width operand fits
+  worked_made (instr.Single Sxt width operand) fits = plain_made Sxt width operand fits
+  worked_made (instr.Jump condition offset) fits = record {
+    form = form;
+    next = (laws.known.sets.single 65536 ((pc + 2) % 65536) (omega arith)).0;
+    even = laws.known.sets.single_rest 65536 2 0 ((pc + 2) % 65536);
+  }
+  worked_made instr.ReturnFromInterrupt fits = laws.returns.made device framed a pc ((pc + 2) % 65536) is form
 
 -- WAYS
 
@@ -214,20 +163,26 @@ module _ (laws : Laws) (device : Device) (framed : Bool) (a : Known) (pc : ℕ) 
   abbrev made_so : Worked
   made_so = worked device framed a pc instr_so
 
+  well_made : IsWellMade device framed ((pc + length_of instr_so) % 65536) made_so
+  well_made = worked_made laws device framed a pc is form instr_so fits
+
+  next_so : (to : ℕ) → Has 65536 made_so.next to → IsEvenWord to
+  next_so = next_even laws well_made (behind_even pc (length (extension_words instr_so)) even).1
+
   -- what is known behind an instruction, with a fact of the flags or none
   ahead_form : (fact : Option FlagFact) → IsFact fact → IsAhead device framed (gie_of a) (followed (gie_of a) fact made_so.after)
   ahead_form fact told =
-      (late_form device.ram.lo device.ram.hi framed (gie_of a) fact made_so.after told (worked_formed laws device framed a pc is form even instr_so fits).after, refl)
+      (late_form device.ram.lo device.ram.hi framed (gie_of a) fact made_so.after told well_made.form, refl)
 
   behind_form : IsAhead device framed (gie_of a) (known_behind device framed a pc instr_so)
   behind_form = ahead_form (fact_of instr_so made_so.after)
-      (fact_form laws instr_so made_so.after (worked_formed laws device framed a pc is form even instr_so fits).after.fact)
+      (fact_form laws instr_so made_so.after well_made.form.fact)
 
   -- along its ways, before a jump tells more and behind it
   ways_ahead : (its : Instr) → IsAhead device framed (gie_of a) (known_behind device framed a pc instr_so)
       → IsOnward IsEvenWord (IsAhead device framed (gie_of a)) (ways_onward pc its made_so.next (known_behind device framed a pc instr_so))
-  ways_ahead (instr.Double operation width origin target) ahead = ((worked_formed laws device framed a pc is form even instr_so fits).next, ahead)
-  ways_ahead (instr.Single operation width operand) ahead = ((worked_formed laws device framed a pc is form even instr_so fits).next, ahead)
+  ways_ahead (instr.Double operation width origin target) ahead = (next_so, ahead)
+  ways_ahead (instr.Single operation width operand) ahead = (next_so, ahead)
   ways_ahead (instr.Jump condition offset) ahead =
       let b = known_behind device framed a pc instr_so in (
         behind_even pc 0 even,
@@ -235,7 +190,7 @@ module _ (laws : Laws) (device : Device) (framed : Bool) (a : Known) (pc : ℕ) 
         cut_ahead laws device framed condition false b (known_cut condition false b) ahead.0 refl,
         cut_ahead laws device framed condition true b (known_cut condition true b) ahead.0 refl,
       )
-  ways_ahead instr.ReturnFromInterrupt ahead = ((worked_formed laws device framed a pc is form even instr_so fits).next, ahead)
+  ways_ahead instr.ReturnFromInterrupt ahead = (next_so, ahead)
 
   pub onward_formed : IsOnward IsEvenWord (IsAhead device framed (gie_of a)) (ways_onward pc instr_so made_so.next (known_behind device framed a pc instr_so))
   onward_formed = ways_ahead instr_so behind_form
@@ -278,10 +233,11 @@ parts_of : (items_so others : List Single) (t u : ChipState)
     → ◌≡◌ {A = Outcome ChipState} (Onward items_so t) (Onward others u) → (items_so ≡ others) × (t ≡ u)
 parts_of items_so others t u e = (cc, cc)
 
--- what a step of an instruction comes to at a location
+-- what a step of an instruction comes to at a location, by what is known there and in front of the instruction
 pub record AtLocation (setting : Setting) (frame : Frame) (a : Known) (s : ChipState) (first : Option ChipState) (instr_so : Instr) : Type 0 where
   pub setting_so : IsSetting setting
-  pub stands : IsUnder setting.device (is_interrupt frame) a s first
+  pub known : IsUnder setting.device (is_interrupt frame) a s first
+  pub stands : IsUnder setting.device (is_interrupt frame) (in_front setting a (register_of s 0) instr_so) s first
   pub in_frame : StandsIn frame first
   pub fits : IsInstr instr_so
   pub even : IsEvenWord (register_of s 0)
@@ -294,30 +250,33 @@ module _ (laws : Laws) (setting : Setting) (calls : List ℕ) (frame : Frame) (a
   abbrev LandsAt : List Single → ChipState → Type 0
   LandsAt = Lands (msp430_machine setting.device) (msp430_analysis setting) (Covers setting.device) (At (register_of s 0) calls frame) work_so s first
 
-  arrives : (outcome : Outcome ChipState) (run : IsRun setting.device (is_interrupt frame) a s first instr_so outcome)
+  abbrev front_so : Known
+  front_so = in_front setting a (register_of s 0) instr_so
+
+  arrives : (outcome : Outcome ChipState) (run : IsRun (here_at setting.device (is_interrupt frame) front_so s first) instr_so outcome)
       → IsChipState setting.device (state_behind s run.left)
       → Arrives (msp430_machine setting.device) (msp430_analysis setting) (Covers setting.device) known_joined (msp430_flow setting) (site_of (msp430_flow setting) (register_of s 0) calls frame instr_so)
-      (onward_of setting frame a (register_of s 0) instr_so (worked setting.device (is_interrupt frame) a (register_of s 0) instr_so)) first (state_behind s run.left)
+      (onward_of setting frame front_so (register_of s 0) instr_so (worked setting.device (is_interrupt frame) front_so (register_of s 0) instr_so)) first (state_behind s run.left)
   unfolding msp430_machine
   arrives outcome run form =
       let device = setting.device in
       let framed = is_interrupt frame in
       let pc = register_of s 0 in
-      let made_so = worked device framed a pc instr_so in
+      let made_so = worked device framed front_so pc instr_so in
       let holds = at.stands.holds in
-      let ahead = onward_formed laws device framed a pc (device_of device at.setting_so.program) at.stands.form at.even instr_so at.fits in
+      let ahead = onward_formed laws device framed front_so pc (device_of device at.setting_so.program) at.stands.form at.even instr_so at.fits in
       let way = run.way in
-      onward_cases setting frame a pc instr_so made_so
+      onward_cases setting frame front_so pc instr_so made_so
       (λ (made : GoesOnward Known). Arrives (msp430_machine device) (msp430_analysis setting) (Covers device) known_joined (msp430_flow setting) (site_of (msp430_flow setting) pc calls frame instr_so)
       made first (state_behind s run.left))
-      (λ leaves_so. let state = followed (gie_of a) None made_so.after in let back = run.back frame at.in_frame leaves_so in
-      at_exit state refl (back.goes (state_behind s run.left) refl, behind_holds device a state s first run.left holds refl back.parts form, at.in_frame))
+      (λ leaves_so. let state = followed (gie_of front_so) None made_so.after in let back = run.back frame at.in_frame leaves_so in
+      at_exit state refl (back.goes (state_behind s run.left) refl, behind_holds device front_so state s first run.left holds refl back.parts form, at.in_frame))
       (λ _. beyond made_so.next refl)
-      (λ _. let formed = ways_formed laws.ways known_joined IsEvenWord (IsAhead device framed (gie_of a)) (joined_ahead laws device framed (gie_of a))
-      (ways_onward pc instr_so made_so.next (known_behind device framed a pc instr_so)) ahead way.way way.listed in
-      on_way way.way way.listed way.goes (way.goes, behind_holds device a way.way.1 s first run.left holds formed.known.1 way.holds form, at.in_frame))
+      (λ _. let formed = ways_formed laws.ways known_joined IsEvenWord (IsAhead device framed (gie_of front_so)) (joined_ahead laws device framed (gie_of front_so))
+      (ways_onward pc instr_so made_so.next (known_behind device framed front_so pc instr_so)) ahead way.way way.listed in
+      on_way way.way way.listed way.goes (way.goes, behind_holds device front_so way.way.1 s first run.left holds formed.known.1 way.holds form, at.in_frame))
 
-  pub run_lands : (items_so : List Single) (t : ChipState) (run : IsRun setting.device (is_interrupt frame) a s first instr_so (Onward items_so t))
+  pub run_lands : (items_so : List Single) (t : ChipState) (run : IsRun (here_at setting.device (is_interrupt frame) front_so s first) instr_so (Onward items_so t))
       → IsChipState setting.device t
       → work_so.opens ≡ [] → (hit : Option ℕ) → run.left.hit ≡ hit → LandsAt items_so t
   unfolding msp430_machine
@@ -330,7 +289,7 @@ module _ (laws : Laws) (setting : Setting) (calls : List ℕ) (frame : Frame) (a
       let same = parts_of items_so singles t (state_behind s run.left) (run.outcome_is ∙ done_by_hit s instr_so run.accesses run.left None e) in
       subst (λ all. LandsAt all t) (sym same.0) (subst (LandsAt singles) (sym same.1)
       (generic_run_lands (msp430_machine device) (msp430_analysis setting) (Covers device) known_joined flow laws.ways pc calls frame a instr_so (flow.followed frame a pc instr_so)
-      s first (register_of s 1) run.accesses (state_behind s run.left) at.stands.holds.parts.sp run.shown
+      s first (register_of s 1) run.accesses (state_behind s run.left) at.known.holds.parts.sp run.shown
       (arrives (Onward items_so t) run (subst (IsChipState device) same.1 form)) none))
 
 -- WHERE AN INTERRUPT LANDS

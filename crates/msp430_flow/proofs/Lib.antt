@@ -1,7 +1,6 @@
 pub mod Landing
 pub mod Lawful
 pub mod MarksLemmas
-pub mod RegisterViews
 pub mod Runs
 pub mod Stepping
 pub mod StackLemmas

@@ -1,5 +1,5 @@
 -- Marks are below 65536.
-use Rattle.std.proofs.Common.{ℕ, ◌+◌, ◌*◌, ◌++◌, Bool, true, false, Option, None, Some, Result, Ok, Err, List, [], arith}
+use Rattle.std.proofs.Common.{ℕ, ◌+◌, ◌*◌, ◌++◌, Bool, true, false, Option, None, Some, Result, Ok, Err, [], arith}
 use Rattle.std.specs.Prelude.{option_map}
 use Rattle.std.proofs.lemmas.Bool.{cond_both}
 use Rattle.chip_flow.specs.MarkFacts.{along_below, both_marks, by_below, first_marks, mark_below, none_marks}

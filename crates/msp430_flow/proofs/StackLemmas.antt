@@ -1,5 +1,5 @@
 -- A work of the MSP430 shows words as stack pointers.
-use Rattle.std.proofs.Common.{ℕ, ◌+◌, ◌%◌, ◌++◌, Bool, true, false, Option, None, Some, List, [], ◌∷◌, sym, subst}
+use Rattle.std.proofs.Common.{ℕ, ◌+◌, ◌%◌, ◌++◌, Bool, true, false, Option, List}
 use Rattle.std.specs.Prelude.{Contains}
 use Rattle.value_set.specs.declared.form.Form.{Form}
 use Rattle.value_set.specs.Summing.{single}
@@ -10,12 +10,15 @@ use Rattle.call_context.specs.declared.shown.Set.{Set}
 use Rattle.call_context.specs.declared.shown.Set.TheVariants.{B, W}
 use Rattle.chip_flow.specs.Stacks.{AreStacksOf, ShowsStacks, both_stacks, stacks_shown}
 use Rattle.msp430_decode.specs.declared.instr.Destination.{Destination}
+use Rattle.msp430_decode.specs.declared.instr.Destination.TheVariants as destination
 use Rattle.msp430_decode.specs.declared.instr.Instr.{Instr}
 use Rattle.msp430_decode.specs.declared.instr.Instr.TheVariants.{Double, Jump, Single, ReturnFromInterrupt}
 use Rattle.msp430_decode.specs.declared.instr.Operation.{Operation}
 use Rattle.msp430_decode.specs.declared.instr.SingleOperation.{SingleOperation}
 use Rattle.msp430_decode.specs.declared.instr.SingleOperation.TheVariants.{Rrc, Swpb, Rra, Sxt, Push, Call}
+use Rattle.msp430_decode.specs.declared.instr.Register.TheVariants.{Sr}
 use Rattle.msp430_decode.specs.declared.instr.Source.{Source}
+use Rattle.msp430_decode.specs.declared.instr.Source.TheVariants as source
 use Rattle.msp430_decode.specs.declared.instr.Width.{Width}
 use Rattle.msp430_decode.specs.declared.instr.Width.TheVariants.{Word}
 use Rattle.msp430_decode.specs.Table.{length_of}
@@ -29,11 +32,8 @@ use Rattle.msp430_alu.specs.Operands.{grown_known}
 use Rattle.msp430_status.specs.Status.{single_status_worked, status_worked}
 use Rattle.msp430_return.specs.Return.{return_worked}
 use Rattle.msp430_flow.specs.declared.setting.Setting.{Setting}
-use Rattle.msp430_flow.specs.Chip.{msp430_analysis, msp430_flow}
+use Rattle.msp430_flow.specs.Chip.{in_front, msp430_analysis, msp430_flow}
 use Rattle.msp430_flow.specs.Running.{double_or_status, one_operand, single_or_status, worked}
-use Rattle.msp430_flow.proofs.RegisterViews.{OperandView, TargetView, operand_view, target_view}
-use Rattle.msp430_flow.proofs.RegisterViews.OperandView.{other_operand, status_operand}
-use Rattle.msp430_flow.proofs.RegisterViews.TargetView.{other_target, status_target}
 
 abbrev IsWordSet : Set → Type 0
 IsWordSet (W values) = Unit {0}
@@ -106,31 +106,27 @@ module _ (device : Device) (framed : Bool) (a : Known) (pc : ℕ) where
   unfolding return_worked
   return_words = (tt, (tt, tt))
 
-  two_words : (len : ℕ) (done : Operation) (width : Width) (origin : Source) (target : Destination) → TargetView target
+  two_words : (len : ℕ) (done : Operation) (width : Width) (origin : Source) (target : Destination)
       → AreShownAsWords (double_or_status device framed a pc len done width origin target)
-  two_words len done width origin target (status_target is) =
-      subst (λ t. AreShownAsWords (double_or_status device framed a pc len done width origin t)) (sym is) (status_words len done width origin)
-  two_words len done width origin target (other_target leaves same) =
-      subst AreShownAsWords (sym (same device framed a pc len done width origin)) (double_words len done width origin target)
+  two_words len done width origin (destination.Register Sr) = status_words len done width origin
+  two_words len done width origin target = double_words len done width origin target
 
-  one_words : (len : ℕ) (done : SingleOperation) (width : Width) (operand : Source) → OperandView operand
+  one_words : (len : ℕ) (done : SingleOperation) (width : Width) (operand : Source)
       → AreShownAsWords (single_or_status device framed a pc len done width operand)
-  one_words len done width operand (status_operand is) =
-      subst (λ o. AreShownAsWords (single_or_status device framed a pc len done width o)) (sym is) (single_status_words len done width)
-  one_words len done width operand (other_operand leaves same) =
-      subst AreShownAsWords (sym (same device framed a pc len done width)) (single_words len done width operand)
+  one_words len done width (source.Register Sr) = single_status_words len done width
+  one_words len done width operand = single_words len done width operand
 
   operand_words : (len : ℕ) (done : SingleOperation) (width : Width) (operand : Source)
       → AreShownAsWords (one_operand device framed a pc len done width operand)
   operand_words len Push width operand = push_words len Push width operand
   operand_words len Call width operand = push_words len Call width operand
-  operand_words len Rrc width operand = one_words len Rrc width operand (operand_view operand)
-  operand_words len Swpb width operand = one_words len Swpb width operand (operand_view operand)
-  operand_words len Rra width operand = one_words len Rra width operand (operand_view operand)
-  operand_words len Sxt width operand = one_words len Sxt width operand (operand_view operand)
+  operand_words len Rrc width operand = one_words len Rrc width operand
+  operand_words len Swpb width operand = one_words len Swpb width operand
+  operand_words len Rra width operand = one_words len Rra width operand
+  operand_words len Sxt width operand = one_words len Sxt width operand
 
   worked_words : (instr : Instr) → AreShownAsWords (worked device framed a pc instr)
-  worked_words (Double done width origin target) = two_words (length_of (Double done width origin target)) done width origin target (target_view target)
+  worked_words (Double done width origin target) = two_words (length_of (Double done width origin target)) done width origin target
   worked_words (Single done width operand) = operand_words (length_of (Single done width operand)) done width operand
   worked_words (Jump condition offset) = tt
   worked_words ReturnFromInterrupt = return_words
@@ -141,7 +137,7 @@ shows_words : (setting : Setting) → ShowsStacks IsWordSet (msp430_flow setting
 shows_words setting = record {
   stack = λ a. tt;
   entry = λ pc coming. (tt, (tt, (tt, tt)));
-  accesses = λ frame a pc instr. worked_words setting.device (is_interrupt frame) a pc instr;
+  accesses = λ frame a pc instr. worked_words setting.device (is_interrupt frame) (in_front setting a pc instr) pc instr;
 }
 
 pub no_byte_stack : (setting : Setting) (unit : WorkUnit) (a : Known) (exit : Option Known) (pc : ℕ) (values : Form)

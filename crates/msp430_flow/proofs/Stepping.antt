@@ -1,5 +1,5 @@
 -- The steps of states that stand under what is known, and the opens of works.
-use Rattle.std.proofs.Common.{◌≡◌, ◌⊎◌, ℕ, ◌+◌, ◌*◌, ◌%◌, ◌<◌, ◌==◌, ◌++◌, cond, Bool, true, false, Option, None, Some, Result, Ok, Err, List, [], ◌∷◌, slice_index, refl, sym, ap, ◌∙◌, subst, inl, inr, Contains}
+use Rattle.std.proofs.Common.{◌≡◌, ◌⊎◌, ℕ, ◌+◌, ◌*◌, ◌%◌, ◌<◌, ◌==◌, ◌++◌, Bool, false, Option, None, Some, Result, Ok, Err, List, [], ◌∷◌, slice_index, refl, sym, ap, ◌∙◌, subst, inl, inr, Contains}
 use Rattle.std.proofs.lemmas.Bool.{cond_both, cond-true}
 use Rattle.std.proofs.lemmas.List.Elements.{Contains-append_cases, Contains-append_left, Contains-append_right}
 use Rattle.call_context.specs.declared.node.Frame.{Frame}
@@ -42,15 +42,17 @@ use Rattle.msp430_chip.specs.State.{allows_interrupts, register_of}
 use Rattle.msp430_chip.specs.Step.{Left, done, step_of}
 use Rattle.msp430_state.specs.Holding.{StandsIn}
 use Rattle.msp430_state.specs.Known.{Known, is_interrupt, known_joined}
+use Rattle.msp430_alu.specs.Doing.{here_at}
 use Rattle.msp430_alu.specs.Formats.{IsHit, IsUnder, Worked}
 use Rattle.msp430_entry.specs.declared.coming.Coming.{Coming}
 use Rattle.msp430_entry.specs.Entry.{ComesSo, comings_of, counter_slot, entry_shows, status_slot}
 use Rattle.msp430_alu.specs.Memory.{IsDevice}
 use Rattle.msp430_flow.specs.Standing.{fetched}
 use Rattle.msp430_flow.specs.declared.setting.Setting.{Setting}
-use Rattle.msp430_flow.specs.Chip.{CanHit, IsProgram, followed_by, msp430_analysis, msp430_causes, msp430_flow, onward_of, open_store, push_opens, store_of}
+use Rattle.msp430_kept.specs.Keeping.{IsKept}
+use Rattle.msp430_flow.specs.Chip.{CanHit, IsProgram, followed_by, in_front, kept_worked, msp430_analysis, msp430_causes, msp430_flow, onward_of, open_store, push_opens, store_of}
 use Rattle.msp430_flow.specs.Machine.{leaving_of}
-use Rattle.msp430_flow.specs.Running.{may_hit, stored_width, worked}
+use Rattle.msp430_flow.specs.Running.{may_hit, stored_width}
 use Rattle.msp430_flow.specs.LawsBelow.{Laws}
 use Rattle.plain_lemmas.specs.Cases.{same_Some}
 use Rattle.plain_lemmas.specs.Members.{in_first, in_none, in_one}
@@ -97,39 +99,44 @@ in_base device (Irq vector sp level) s first stands_so e = absurd (cc)
 -- STEPS
 
 -- what a step comes to: the entry of an interrupt, an instruction, or none
-pub data Comes (device : Device) (framed : Bool) (a : Known) (s : ChipState) (first : Option ChipState) (outcome : Outcome ChipState) : Type 0 where
-  entered : (coming_so : Coming) (bits : ℕ) → ComesSo device a s coming_so → bits < 128
-      → outcome ≡ entry device s coming_so.vector bits → Comes device framed a s first outcome
-  ran : (instr_so : Instr) → fetched device.image (register_of s 0) ≡ Some instr_so → IsInstr instr_so
-      → IsRun device framed a s first instr_so outcome → Comes device framed a s first outcome
-  refused : (refusal : NoInstr) → fetched device.image (register_of s 0) ≡ None
-      → outcome ≡ Leaves (wild_cause.NoInstr refusal) → Comes device framed a s first outcome
+pub data Comes (setting : Setting) (framed : Bool) (a : Known) (s : ChipState) (first : Option ChipState) (outcome : Outcome ChipState) : Type 0 where
+  entered : (coming_so : Coming) (bits : ℕ) → ComesSo setting.device a s coming_so → bits < 128
+      → outcome ≡ entry setting.device s coming_so.vector bits → Comes setting framed a s first outcome
+  ran : (instr_so : Instr) → fetched setting.device.image (register_of s 0) ≡ Some instr_so → IsInstr instr_so
+      → IsUnder setting.device framed (in_front setting a (register_of s 0) instr_so) s first
+      → IsRun (here_at setting.device framed (in_front setting a (register_of s 0) instr_so) s first) instr_so outcome → Comes setting framed a s first outcome
+  refused : (refusal : NoInstr) → fetched setting.device.image (register_of s 0) ≡ None
+      → outcome ≡ Leaves (wild_cause.NoInstr refusal) → Comes setting framed a s first outcome
 
-leads : Laws → (device : Device) → IsProgram device
+leads : Laws → (setting : Setting) → IsProgram setting.device
     → (framed : Bool) (a : Known) (s : ChipState) (first : Option ChipState) (outcome : Outcome ChipState)
-    → IsUnder device framed a s first → register_of s 0 % 2 ≡ 0 → MayLead device s outcome
-    → Comes device framed a s first outcome
-leads laws device program framed a s first outcome under even (Enters vector bits there below is) =
-    let (coming_so, same, so) = laws.entries.comes device framed a s first vector under there in
-    entered coming_so bits so below (is ∙ ap (λ v. entry device s v bits) (sym same))
-leads laws device program framed a s first outcome under even (Runs instr_so len standing may) =
+    → IsUnder setting.device framed a s first → IsKept setting.device setting.promises s outcome → register_of s 0 % 2 ≡ 0 → MayLead setting.device s outcome
+    → Comes setting framed a s first outcome
+leads laws setting program framed a s first outcome under is_kept even (Enters vector bits there below is) =
+    let (coming_so, same, so) = laws.entries.comes setting.device framed a s first vector under there in
+    entered coming_so bits so below (is ∙ ap (λ v. entry setting.device s v bits) (sym same))
+leads laws setting program framed a s first outcome under is_kept even (Runs instr_so len standing may) =
+    let device = setting.device in
     let pc = register_of s 0 in
     let is : decoded device.image pc ≡ Ok (instr_so, len) = sym (laws.decoding.one device.image pc (Ok (instr_so, len)) program.read.size program.read.bytes standing) in
     let row = laws.decoding.instruction device.image pc len instr_so program.read.size program.read.bytes is in
-    ran instr_so (one_found (decoded device.image pc) instr_so len (fetched device.image pc) is (fetching_at device.image pc even)) row.0
-    (instr_run laws device framed a s first instr_so outcome under row.0 (subst (λ l. MayRun device s instr_so l outcome) row.1 may))
-leads laws device program framed a s first outcome under even (NoneStands refusal decodes is) =
+    let b = in_front setting a pc instr_so in
+    let ahead = laws.fronts.holds device setting.promises framed a s first instr_so len outcome under is may is_kept in
+    ran instr_so (one_found (decoded device.image pc) instr_so len (fetched device.image pc) is (fetching_at device.image pc even)) row.0 ahead
+    (instr_run laws (here_at device framed b s first) instr_so outcome ahead row.0 (subst (λ l. MayRun device s instr_so l outcome) row.1 may))
+leads laws setting program framed a s first outcome under is_kept even (NoneStands refusal decodes is) =
+    let device = setting.device in
     let pc = register_of s 0 in
     let none : decoded device.image pc ≡ Err refusal = sym (laws.decoding.one device.image pc (Err refusal) program.read.size program.read.bytes decodes) in
     refused refusal (none_found (decoded device.image pc) refusal (fetched device.image pc) none (fetching_at device.image pc even)) is
 
-pub comes : Laws → (device : Device) → IsProgram device
+pub comes : Laws → (setting : Setting) → IsProgram setting.device
     → (framed : Bool) (a : Known) (s : ChipState) (first : Option ChipState) (outcome : Outcome ChipState)
-    → IsUnder device framed a s first → (choices left : List ℕ)
-    → step_of device s choices ≡ Some (outcome, left) → Comes device framed a s first outcome
-comes laws device program framed a s first outcome under choices left step =
-    leads laws device program framed a s first outcome under under.holds.state.even_pc
-    ((laws.steps.lead device s program.read.size program.read.bytes).each choices left outcome step)
+    → IsUnder setting.device framed a s first → IsKept setting.device setting.promises s outcome → (choices left : List ℕ)
+    → step_of setting.device s choices ≡ Some (outcome, left) → Comes setting framed a s first outcome
+comes laws setting program framed a s first outcome under is_kept choices left step =
+    leads laws setting program framed a s first outcome under is_kept under.holds.state.even_pc
+    ((laws.steps.lead setting.device s program.read.size program.read.bytes).each choices left outcome step)
 
 -- OUT OF THE MODEL
 
@@ -170,26 +177,27 @@ told_by : (work : Work Known) (pc : ℕ) (set : Form) (why : Leaving) → Tells 
 told_by work pc set why tells there = ((pc, Store set), there, tells)
 
 -- the store of an instruction that leaves the model
-store_told : (setting : Setting) (pc : ℕ) (calls : List ℕ) (frame : Frame) (a : Known) (instr_so : Instr) (made_so : Worked) (at : ℕ) (store : Option Form)
+store_told : (setting : Setting) (pc : ℕ) (calls : List ℕ) (frame : Frame) (a b : Known) (instr_so : Instr) (made_so : Worked) (at : ℕ) (store : Option Form)
     → made_so.store ≡ store → IsHit setting.device (stored_width instr_so) store at
-    → IsTold (work_by known_joined (msp430_flow setting) pc calls frame a instr_so (followed_by setting frame a pc instr_so made_so)) (program_written at)
-store_told setting pc calls frame a instr_so made_so at None is hit = absurd hit
-store_told setting pc calls frame a instr_so made_so at (Some set) is hit =
+    → IsTold (work_by known_joined (msp430_flow setting) pc calls frame a instr_so (followed_by setting frame b pc instr_so made_so)) (program_written at)
+store_told setting pc calls frame a b instr_so made_so at None is hit = absurd hit
+store_told setting pc calls frame a b instr_so made_so at (Some set) is hit =
     let width = stored_width instr_so in
-    let made = followed_by setting frame a pc instr_so made_so in
+    let made = followed_by setting frame b pc instr_so made_so in
     let opened : made.store ≡ Some (Store set) = ap (store_of setting.device width) is ∙ opened_at setting.device width set at hit in
     told_by (work_by known_joined (msp430_flow setting) pc calls frame a instr_so made) pc set (program_written at) tt (instr_open known_joined (msp430_flow setting) pc calls frame a instr_so made (Store set) opened)
 
 hit_told_by : (setting : Setting) (calls : List ℕ) (frame : Frame) (a : Known) (s : ChipState) (first : Option ChipState) (instr_so : Instr) (wild : WildCause)
-    → (run : IsRun setting.device (is_interrupt frame) a s first instr_so (Leaves wild)) → (hit : Option ℕ) → run.left.hit ≡ hit
+    → (run : IsRun (here_at setting.device (is_interrupt frame) (in_front setting a (register_of s 0) instr_so) s first) instr_so (Leaves wild)) → (hit : Option ℕ) → run.left.hit ≡ hit
     → IsTold (work_at known_joined (msp430_flow setting) (register_of s 0) calls frame a (Some instr_so)) (leaving_of wild)
 hit_told_by setting calls frame a s first instr_so wild run None e =
     let outcome = run.outcome_is ∙ done_by_hit s instr_so run.accesses run.left None e in absurd (cc)
 hit_told_by setting calls frame a s first instr_so wild run (Some at) e =
     let outcome = run.outcome_is ∙ done_by_hit s instr_so run.accesses run.left (Some at) e in
-    let made_so = worked setting.device (is_interrupt frame) a (register_of s 0) instr_so in
+    let made_so = kept_worked setting (is_interrupt frame) a (register_of s 0) instr_so in
+    let b = in_front setting a (register_of s 0) instr_so in
     subst (λ w. IsTold (work_at known_joined (msp430_flow setting) (register_of s 0) calls frame a (Some instr_so)) (leaving_of w)) (sym (same_wild outcome))
-    (store_told setting (register_of s 0) calls frame a instr_so made_so at made_so.store refl (run.hit at e))
+    (store_told setting (register_of s 0) calls frame a b instr_so made_so at made_so.store refl (run.hit at e))
 
 opened_in : (device : Device) (pc at : ℕ) (set : Form) → IsHit device Word (Some set) at
     → Contains (store_opens pc (open_store device Word set)) (pc, Store set)
@@ -232,11 +240,11 @@ entry_told laws setting calls frame a s first wild found under coming_so bits so
 
 pub told : Laws
     → (setting : Setting) (calls : List ℕ) (frame : Frame) (a : Known) (s : ChipState) (first : Option ChipState) (wild : WildCause)
-    → IsUnder setting.device (is_interrupt frame) a s first → Comes setting.device (is_interrupt frame) a s first (Leaves wild)
+    → IsUnder setting.device (is_interrupt frame) a s first → Comes setting (is_interrupt frame) a s first (Leaves wild)
     → IsTold (work_at known_joined (msp430_flow setting) (register_of s 0) calls frame a (fetched setting.device.image (register_of s 0))) (leaving_of wild)
 told laws setting calls frame a s first wild under (entered coming_so bits so below is) =
     entry_told laws setting calls frame a s first wild (fetched setting.device.image (register_of s 0)) under coming_so bits so is
-told laws setting calls frame a s first wild under (ran instr_so found fits run) =
+told laws setting calls frame a s first wild under (ran instr_so found fits ahead run) =
     subst (λ r. IsTold (work_at known_joined (msp430_flow setting) (register_of s 0) calls frame a r) (leaving_of wild)) (sym found)
     (hit_told_by setting calls frame a s first instr_so wild run run.left.hit refl)
 told laws setting calls frame a s first wild under (refused refusal found is) =
@@ -294,7 +302,7 @@ module _ (laws : Laws) (setting : Setting) (program : IsProgram setting.device) 
       ]
 
   store_breaks : (instr_so : Instr) → fetched setting.device.image pc ≡ Some instr_so → pc % 2 ≡ 0 → (cause : Cause) (store : Option Form)
-      → (worked setting.device (is_interrupt frame) a pc instr_so).store ≡ store
+      → (kept_worked setting (is_interrupt frame) a pc instr_so).store ≡ store
       → store_of setting.device (stored_width instr_so) store ≡ Some cause
       → BreaksLimit (msp430_causes setting) (At pc calls frame) a cause
   store_breaks instr_so found even cause None stores is = absurd (cc)
@@ -304,11 +312,11 @@ module _ (laws : Laws) (setting : Setting) (program : IsProgram setting.device) 
       subst (BreaksLimit (msp430_causes setting) (At pc calls frame) a) (sym same) (inl (record { instr = instr_so; len = len; standing = standing; stores = stores; can = can }))
 
   targets_break : (instr_so : Instr) → fetched setting.device.image pc ≡ Some instr_so → pc % 2 ≡ 0 → (values : Form)
-      → onward_of setting frame a pc instr_so (worked setting.device (is_interrupt frame) a pc instr_so) ≡ onward.Open values
+      → onward_of setting frame (in_front setting a pc instr_so) pc instr_so (kept_worked setting (is_interrupt frame) a pc instr_so) ≡ onward.Open values
       → BreaksLimit (msp430_causes setting) (At pc calls frame) a (Targets values)
   targets_break instr_so found even values is =
       let (len, standing) = standing_of laws setting.device program pc instr_so (fetched setting.device.image pc) found (fetching_at setting.device.image pc even) in
-      let (next, many) = open_of setting frame a pc instr_so (worked setting.device (is_interrupt frame) a pc instr_so) values is in
+      let (next, many) = open_of setting frame (in_front setting a pc instr_so) pc instr_so (kept_worked setting (is_interrupt frame) a pc instr_so) values is in
       record { instr = instr_so; len = len; standing = standing; next = next; many = many }
 
   pub location_breaks : HasChipForm setting.device.ram.lo setting.device.ram.hi (At pc calls frame) a
@@ -324,5 +332,5 @@ module _ (laws : Laws) (setting : Setting) (program : IsProgram setting.device) 
             let found = one_found (decoded image pc) instr_so len (fetched image pc) is (fetching_at image pc even) in
             absurd (let both = sym none ∙ found in cc);
         targets = λ instr_so values found is. targets_break instr_so found even values is;
-        store = λ instr_so cause found is. store_breaks instr_so found even cause (worked setting.device (is_interrupt frame) a pc instr_so).store refl is;
+        store = λ instr_so cause found is. store_breaks instr_so found even cause (kept_worked setting (is_interrupt frame) a pc instr_so).store refl is;
       }

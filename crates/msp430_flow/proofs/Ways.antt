@@ -1,5 +1,5 @@
 -- Where an instruction goes on, by cases.
-use Rattle.std.proofs.Common.{◌≡◌, ℕ, ◌<◌, true, false, Option, None, Some, subst}
+use Rattle.std.proofs.Common.{◌≡◌, ℕ, ◌<◌, true, false, None, subst}
 use Rattle.std.proofs.lemmas.Bool.{cond_both}
 use Rattle.call_context.specs.declared.node.Frame.{Frame}
 use Rattle.chip_flow.specs.Along.{limited_is, limited_open}

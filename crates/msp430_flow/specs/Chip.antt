@@ -1,5 +1,5 @@
 -- What an analysis makes of a program of the MSP430, in sets.
-use Rattle.std.specs.Prelude.{◌≡◌, ◌<◌, ◌≤◌, ◌⊎◌, ℕ, if◌then◌else◌, true, Option, None, Some, List, [], ◌++◌, Contains}
+use Rattle.std.specs.Prelude.{◌≡◌, ◌<◌, ◌≤◌, ◌⊎◌, ℕ, if◌then◌else◌, Bool, true, Option, None, Some, List, [], ◌++◌, Contains}
 use Rattle.call_context.specs.declared.node.Frame.{Frame}
 use Rattle.call_context.specs.declared.node.Frame.TheVariants.{Base}
 use Rattle.call_context.specs.declared.node.Node.TheVariants.{At}
@@ -33,6 +33,7 @@ use Rattle.msp430_alu.specs.Formats.{Worked}
 use Rattle.msp430_entry.specs.declared.coming.Coming.{Coming}
 use Rattle.msp430_entry.specs.Entry.{comings_of, counter_slot, entered_known, entry_items, frame_of_coming, status_slot}
 use Rattle.msp430_resume.specs.Resume.{resumed_known}
+use Rattle.msp430_kept.specs.Front.{front}
 use Rattle.msp430_flow.specs.declared.setting.Setting.{Setting}
 use Rattle.msp430_flow.specs.Standing.{fetched}
 use Rattle.msp430_flow.specs.Labels.{effect_of}
@@ -56,6 +57,14 @@ push_opens device pc coming =
 
 -- WHAT IS MADE OF WHAT IS KNOWN
 
+-- what is known in front of an instruction whose step keeps what is promised
+abbrev pub in_front : Setting → Known → ℕ → Instr → Known
+in_front setting a pc instr = front setting.device setting.promises a pc instr
+
+-- what the instruction makes of that
+abbrev pub kept_worked : Setting → (framed : Bool) → Known → ℕ → Instr → Worked
+kept_worked setting framed a pc instr = worked setting.device framed (in_front setting a pc instr) pc instr
+
 -- a return from the frame's interrupt leaves its state at the exit
 abbrev pub onward_of : Setting → Frame → Known → ℕ → Instr → Worked → Onward Known
 onward_of setting frame a pc instr made =
@@ -76,7 +85,7 @@ msp430_flow setting = record {
   fetched = fetched setting.device.image;
   bytes = bytes_of;
   effect = effect_of;
-  followed = λ frame a pc instr. followed_by setting frame a pc instr (worked setting.device (is_interrupt frame) a pc instr);
+  followed = λ frame a pc instr. followed_by setting frame (in_front setting a pc instr) pc instr (kept_worked setting (is_interrupt frame) a pc instr);
   comings = comings_of setting.device;
   entry_items = entry_items setting.device;
   entry_opens = push_opens setting.device;
@@ -108,13 +117,13 @@ pub record CanHit (device : Device) (width : Width) (values : Form) : Type 0 whe
   pub is_address : Has 65536 values address
   pub hits : hit_at device width address ≡ Some at
 
--- the instruction that stands at an address stores at these addresses, by what is known there
-pub record InstructionHits (device : Device) (pc : ℕ) (frame : Frame) (a : Known) (values : Form) : Type 0 where
+-- the instruction that stands at an address stores at these addresses, by what is known and promised there
+pub record InstructionHits (setting : Setting) (pc : ℕ) (frame : Frame) (a : Known) (values : Form) : Type 0 where
   pub instr : Instr
   pub len : ℕ
-  pub standing : Stands device.image pc instr len
-  pub stores : (worked device (is_interrupt frame) a pc instr).store ≡ Some values
-  pub can : CanHit device (stored_width instr) values
+  pub standing : Stands setting.device.image pc instr len
+  pub stores : (kept_worked setting (is_interrupt frame) a pc instr).store ≡ Some values
+  pub can : CanHit setting.device (stored_width instr) values
 
 -- or an interrupt that has a handler may come there, by what is known, and PC or SR is pushed at these addresses
 pub record InterruptHits (device : Device) (a : Known) (values : Form) : Type 0 where
@@ -128,9 +137,9 @@ pub record InterruptHits (device : Device) (a : Known) (values : Form) : Type 0 
 abbrev pub msp430_causes : Setting → Causes Known Instr
 msp430_causes setting = record {
   Stands = Stands setting.device.image;
-  GoesTo = λ frame a pc instr values. (worked setting.device (is_interrupt frame) a pc instr).next ≡ values;
+  GoesTo = λ frame a pc instr values. (kept_worked setting (is_interrupt frame) a pc instr).next ≡ values;
   targets = setting.limits.targets;
-  Hits = λ frame a pc values. InstructionHits setting.device pc frame a values ⊎ InterruptHits setting.device a values;
+  Hits = λ frame a pc values. InstructionHits setting pc frame a values ⊎ InterruptHits setting.device a values;
 }
 
 -- THE ANALYSIS

@@ -11,6 +11,7 @@ use Rattle.msp430_entry.specs.Laws.{InterruptLaws}
 use Rattle.msp430_return.specs.Laws.{ReturnLaws}
 use Rattle.msp430_resume.specs.Laws.{ResumptionLaws}
 use Rattle.msp430_branch.specs.Laws.{CutsHold, FactsHold}
+use Rattle.msp430_kept.specs.Laws.{FrontLaws}
 
 pub record Laws : Type 0 where
   pub known : KnownLaws
@@ -25,6 +26,7 @@ pub record Laws : Type 0 where
   pub resumptions : ResumptionLaws
   pub cuts : CutsHold
   pub facts : FactsHold
+  pub fronts : FrontLaws
   pub steps : StepLaws
   pub decoding : DecodingLaws
   pub states : StateLaws

@@ -1,6 +1,6 @@
 //! The chip.
 
-ghost use Rattle.std.specs.Prelude.{◌≡◌, ◌≤◌, IfOk, IfSome};
+ghost use Rattle.std.specs.Prelude.{◌≡◌, ◌≤◌, [], IfOk, IfSome};
 ghost use Rattle.image.specs.Kept.{IsRamRange, IsReadUnder};
 ghost use Rattle.image.specs.declared.rule_set.Rules.{Rules};
 ghost use Rattle.msp430_chip.specs.Memory.{HasRam};
@@ -16,7 +16,7 @@ use crate::setting::Setting;
 use crate::text::Msp430Text;
 use analysis_limits::Limits;
 use arrayvec::ArrayString;
-use call_context::{Node, Unit};
+use call_context::{Node, Sequence, Unit};
 use chip_analysis::{Chip, Work};
 use chip_flow::{frame_of, start_node, work};
 use image::{Image, RamRange};
@@ -25,6 +25,7 @@ use msp430_chip::Device;
 use msp430_decode::{Instr, decode};
 use msp430_state::State;
 use no_memory::Memory;
+use promises::Promise;
 use std::alloc::Global;
 use std::marker::Model;
 
@@ -51,7 +52,7 @@ impl Model for Msp430Chip {
 
 impl Msp430Chip {
     /// The chip with this program, which was read under its rules, with this RAM, call strings of so many sites, and so many
-    /// targets of an instruction that are followed.
+    /// targets of an instruction that are followed. Nothing is promised of its steps.
     pub fn new(
         alloc: Global,
         image: Image,
@@ -61,12 +62,31 @@ impl Msp430Chip {
         requires read { IsReadUnder (Rules.Msp430 ram) image }
         requires ram { IsRamRange (Rules.Msp430 ram) }
         requires calls { limits.calls ≤ 8 }
-        ensures { IfOk result (λ chip. chip ≡ record { device = record { image = image; ram = ram }; limits = limits }) }
+        ensures { IfOk result (λ chip. chip ≡ record { device = record { image = image; ram = ram }; limits = limits; promises = [] }) }
     {
         let device = Device { image, ram };
         let marks = marks_of(alloc, &device)?;
-        let setting = Setting { device, limits };
+        let promises = Sequence::new(alloc);
+        let setting = Setting {
+            device,
+            limits,
+            promises,
+        };
         Ok(Msp430Chip { setting, marks })
+    }
+
+    /// The same where this is promised of its steps.
+    pub fn with_promises(self, promises: Sequence<Promise>) -> Msp430Chip
+        ensures { result ≡ record self { promises = promises } }
+    {
+        let Msp430Chip { setting, marks } = self;
+        let Setting { device, limits, .. } = setting;
+        let setting = Setting {
+            device,
+            limits,
+            promises,
+        };
+        Msp430Chip { setting, marks }
     }
 
     /// The program was read under the chip's rules, and call strings have at most eight sites.
@@ -132,6 +152,13 @@ impl Msp430Chip {
         ensures { result.now ≡ self.now.device }
     {
         &self.setting.device
+    }
+
+    /// What is promised of the program's steps.
+    pub(crate) fn promises(&self) -> &[Promise]
+        ensures { result.now ≡ self.now.promises }
+    {
+        self.setting.promises.as_slice()
     }
 
     /// The limits of the analysis.

@@ -20,6 +20,7 @@ use msp430_decode::{Condition, Instr, encode, offset_target};
 use msp430_entry::{
     Coming, add_entry_items, comings, entered, frame_of, handler_of, interrupt_laws,
 };
+use msp430_kept::front;
 use msp430_resume::resume;
 use msp430_state::FlagFact;
 use no_memory::Memory;
@@ -168,6 +169,11 @@ impl Flow for Msp430Chip {
     ) -> Result<Followed<Abs>, Memory> {
         self.keeps_rules();
         let device = self.device();
+        let in_front = front(alloc, device, self.promises(), at, pc, instr)?;
+        let at = match &in_front {
+            Some(known) => known,
+            None => at,
+        };
         let Worked {
             after,
             next,

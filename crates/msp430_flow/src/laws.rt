@@ -2,19 +2,20 @@
 
 ghost use Rattle.msp430_flow.specs.Chip.{IsSetting};
 ghost use Rattle.msp430_flow.specs.LawsBelow.{Laws};
-ghost use Rattle.msp430_flow.specs.Machine.{msp430_machine};
+ghost use Rattle.msp430_flow.specs.Machine.{machine_if, msp430_machine};
 ghost use Rattle.msp430_state.specs.Holding.{Covers};
 
 use crate::chip::Msp430Chip;
 use crate::kept::Kept;
 use chip_analysis::OrderlyChip;
-use chip_law::LawfulChip;
+use chip_law::{LawfulChip, RunningChip};
 use irq_frames::known_laws;
 use msp430_alu::{doubles_hold, pushes_hold, singles_hold};
 use msp430_branch::{cuts_hold, facts_hold};
-use msp430_chip::{ChipState, step_laws};
+use msp430_chip::{ChipState, Device, step_laws};
 use msp430_decode::decoding_laws;
 use msp430_entry::interrupt_laws;
+use msp430_kept::front_laws;
 use msp430_resume::resumption_laws;
 use msp430_return::return_laws;
 use msp430_state::state_laws;
@@ -37,6 +38,7 @@ fn laws_below()
     resumption_laws();
     cuts_hold();
     facts_hold();
+    front_laws();
     step_laws();
     decoding_laws();
     state_laws();
@@ -63,11 +65,19 @@ impl OrderlyChip for Msp430Chip {
 impl LawfulChip for Msp430Chip {
     type State = ChipState;
 
-    ghost machine = { λ setting. msp430_machine setting.device };
+    ghost machine = { machine_if };
 
     ghost covers = { λ setting. Covers setting.device };
 
     fn laws() {
         laws_below();
     }
+}
+
+impl RunningChip for Msp430Chip {
+    type Program = Device;
+
+    type State = ChipState;
+
+    ghost machine = { msp430_machine };
 }

@@ -4,6 +4,7 @@ ghost use Rattle.std.specs.Prelude.{IfOk, IfSome};
 ghost use Rattle.image.specs.Kept.{IsRamRange, IsReadUnder};
 ghost use Rattle.image.specs.declared.rule_set.Rules.{Rules};
 
+use crate::promised::{Promised, promises_of};
 use crate::sets::range_of;
 use analysis_limits::Limits;
 use ihex_read::{MOST_BYTES, Reader, Tail};
@@ -57,8 +58,13 @@ fn image_of(alloc: Global, rules: Rules, text: &str) -> Result<Option<Image>, Me
     }
 }
 
-/// The chip with the code of a row, and perhaps a mirror.
-pub fn chip_of(alloc: Global, row: &CodeRow, mirror: &str) -> Result<Option<Msp430Chip>, Memory> {
+/// The chip with the code of a row, perhaps a mirror, and what is promised.
+pub fn chip_of(
+    alloc: Global,
+    row: &CodeRow,
+    mirror: &str,
+    promised: Promised,
+) -> Result<Option<Msp430Chip>, Memory> {
     let Some(ram) = ram_of(mirror) else {
         return Ok(None);
     };
@@ -66,6 +72,9 @@ pub fn chip_of(alloc: Global, row: &CodeRow, mirror: &str) -> Result<Option<Msp4
     let Some(image) = image_of(alloc, ram.rules(), text.as_str())? else {
         return Ok(None);
     };
+    let Some(promises) = promises_of(alloc, &image, row.pc, promised)? else {
+        return Ok(None);
+    };
     let chip = Msp430Chip::new(alloc, image, ram, Limits::USUAL)?;
-    Ok(Some(chip))
+    Ok(Some(chip.with_promises(promises)))
 }

@@ -4,6 +4,7 @@ ghost use Rattle.msp430_decode.specs.Table.{IsInstr};
 
 use crate::chips::chip_of;
 use crate::naming::put;
+use crate::promised::Promised;
 use crate::sets::{number_of, words_of};
 use crate::showing::are_shown;
 use abs_pages::CellPages;
@@ -47,7 +48,10 @@ fn frame_of(sp: &str) -> Frame {
 fn put_all(state: &mut State<CellPages>, words: &str) -> Result<bool, Memory> {
     for word in words.split(' ') {
         if let Some((name, value)) = word.split_once('=')
-            && !matches!(name, "PC" | "Targets" | "Store" | "frame" | "mirror")
+            && !matches!(
+                name,
+                "PC" | "Targets" | "Store" | "frame" | "mirror" | "write" | "all"
+            )
             && !put(state, name, value)?
         {
             return Ok(false);
@@ -150,7 +154,11 @@ pub fn holds(alloc: Global, line: &str) -> Result<bool, Memory> {
         return Ok(false);
     };
     let (front, behind) = row.rest.split_once('>').unwrap_or(("", ""));
-    let Some(chip) = chip_of(alloc, &row, value_of(front, "mirror"))? else {
+    let promised = Promised {
+        own: value_of(front, "write"),
+        all: value_of(front, "all"),
+    };
+    let Some(chip) = chip_of(alloc, &row, value_of(front, "mirror"), promised)? else {
         return Ok(false);
     };
     match chip.fetch(row.pc) {

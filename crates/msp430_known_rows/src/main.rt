@@ -14,6 +14,7 @@
 //! - `touched` is the range of RAM that a handler may have written.
 //! - `frame=0280`: an interrupt that came where SP was 0280h, and `*` where that could be several numbers. Else there is none.
 //! - RAM stands from 0200h to 02FFh, and behind `mirror=0200-09FF` from 1100h to 38FFh, with its first bytes there again.
+//! - `write=0000-SP` promises these windows of the row's instruction, and `all=0000-SP` of each store, as `write *` does.
 //! - An access is `r` for a read or `w` for a write, `b` behind it where it is of a byte, and its addresses.
 //! - `PC=back`: to the state that the interrupt suspended. `never`: a way of a jump that can't be taken.
 //! - `Targets` and `Store` are what is left open, as in a report.
@@ -25,6 +26,7 @@ mod chips;
 mod facts;
 mod holding;
 mod naming;
+mod promised;
 mod sets;
 mod showing;
 

@@ -1,3 +1,4 @@
 pub mod StatusWord
 pub mod ReturnLaw
 pub mod BackLaw
+pub mod Doing

@@ -42,6 +42,7 @@ use Rattle.msp430_results.specs.Words.{values_of, written_word}
 use Rattle.msp430_state.specs.Forms.{IsKnown, IsRelation, IsWord}
 use Rattle.msp430_state.specs.Holding.{HoldsOfParts, suspended_of}
 use Rattle.msp430_state.specs.Known.{Known, word_of}
+use Rattle.msp430_alu.specs.Doing.{here_at}
 use Rattle.msp430_alu.specs.Formats.{IsUnder, counter_set, double_worked}
 use Rattle.msp430_alu.specs.Laws.{DoublesHold, WordsHold}
 use Rattle.msp430_alu.specs.Memory.{IsDevice}
@@ -151,7 +152,7 @@ pub grown_form : (laws : StatusLaws) {device : Device} {framed : Bool} {a : Know
 unfolding double_worked
 grown_form laws {device} {framed} {a} pc len width origin is form from_so =
     subst (λ counted. IsKnown device.ram.lo device.ram.hi framed (grown_known a counted width origin)) (counter_one laws pc len origin R3)
-    (laws.doubles.form device framed a pc len Mov width origin (destination.Register R3) is form from_so tt)
+    (laws.doubles.made device framed a pc len Mov width origin (destination.Register R3) is form from_so tt).form
 
 pub grown_parts : (laws : StatusLaws) {device : Device} {framed : Bool} {a : Known} {s : ChipState} {first : Option ChipState} {len : ℕ} {done : Operation} {width : Width}
     {origin : Source} {outcome : Outcome ChipState}
@@ -162,7 +163,7 @@ unfolding double_worked
 grown_parts laws {device} {framed} {a} {s} {first} {len} {width} {origin} under from_so may =
     let by = moved laws may R3 in
     let v = source_number s may.counted width origin may.bits may.x in
-    let is = laws.doubles.left device framed a s first len Mov width origin (destination.Register R3) by.outcome under from_so tt tt by.may in
+    let is = (laws.doubles.comes (here_at device framed a s first) len Mov width origin (destination.Register R3) by.outcome under from_so tt tt by.may).left_so in
     subst (λ counted. HoldsOfParts device (grown_known a counted width origin) first (moved_left device s len may.counted width origin R3 v).registers s.ram)
     (counter_one laws (register_of s 0) len origin R3)
     (subst (λ (left : Left). HoldsOfParts device (grown_known a (counter_set (register_of s 0) len origin (destination.Register R3)) width origin) first left.registers left.ram) by.left_is is.parts)
@@ -201,7 +202,7 @@ moved_word_form : (laws : StatusLaws) {device : Device} {framed : Bool} {a : Kno
     → IsWord framed (word_of (double_worked device framed a pc len Mov width origin (destination.Register R4)).after 4)
 moved_word_form laws {device} {framed} {a} pc len width origin is form from_so =
     let after = (double_worked device framed a pc len Mov width origin (destination.Register R4)).after in
-    let known = laws.doubles.form device framed a pc len Mov width origin (destination.Register R4) is form from_so tt in
+    let known = (laws.doubles.made device framed a pc len Mov width origin (destination.Register R4) is form from_so tt).form in
     All-get_or (IsWord framed) after.registers 0 (unknown 2) (omega (arith, known.count)) known.registers
 
 -- the relation of a word, as the source is read, is in form
@@ -261,7 +262,7 @@ source_known laws {device} {framed} {a} {s} {first} {len} {width} {origin} under
     let pc = register_of s 0 in
     let by = moved laws may R4 in
     let v = source_number s may.counted width origin may.bits may.x in
-    let is = laws.doubles.left device framed a s first len Mov width origin (destination.Register R4) by.outcome under from_so tt tt by.may in
+    let is = (laws.doubles.comes (here_at device framed a s first) len Mov width origin (destination.Register R4) by.outcome under from_so tt tt by.may).left_so in
     let after = (double_worked device framed a pc len Mov width origin (destination.Register R4)).after in
     let under_first = option_map suspended_of first in
     let (has, came) : HoldsOfWord under_first (word_of after 4) (get_or by.may.left.registers 4 0) = is.parts.words 4 (omega arith) (omega arith) in

@@ -45,6 +45,7 @@ use Rattle.msp430_state.specs.Holding.{HoldsOfParts, suspended_of}
 use Rattle.msp430_state.specs.Known.{Known}
 use Rattle.msp430_alu.specs.declared.reach.Reach.TheVariants.{InRegister}
 use Rattle.msp430_alu.specs.Formats.{AreShown, IsLeft, IsUnder, access_if, access_of, constant_of, counter_set, double_worked, relation_of}
+use Rattle.msp430_alu.specs.Doing.{here_at}
 use Rattle.msp430_alu.specs.Memory.{IsDevice}
 use Rattle.msp430_alu.specs.Operands.{grown_known, operand_word, source_reach}
 use Rattle.msp430_alu.specs.Registers.{status_set}
@@ -315,7 +316,7 @@ status_shown laws device framed a s first len done width origin outcome under fr
     let singles = double_accesses device pc done width (origin_of s may.counted origin) (place_of s len may.counted width origin (destination.Register Sr)) in
     let shown : AreShown
     (reads ++ access_if (reads_destination done) device pc false width (InRegister Sr) ++ access_if (writes_result done) device pc true width (InRegister Sr)) singles =
-    laws.doubles.shown device framed a s first len done width origin (destination.Register Sr) outcome under from_so tt may in
+    laws.doubles.shown (here_at device framed a s first) len done width origin (destination.Register Sr) outcome under from_so tt may in
     let first_so = subst (λ list. AreShown (reads ++ list ++ access_if (writes_result done) device pc true width (InRegister Sr)) singles)
     (no_access device (reads_destination done) pc false width Sr) shown in
     let second_so = subst (λ list. AreShown (reads ++ [] ++ list) singles) (no_access device (writes_result done) pc true width Sr) first_so in

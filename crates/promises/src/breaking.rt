@@ -20,7 +20,7 @@ fn every_line_kept()
 {}
 
 /// The windows that a promise gives an address of its own.
-fn windows_for(pc: u16, promise: &Promise) -> Option<&[Window]>
+pub(crate) fn windows_for(pc: u16, promise: &Promise) -> Option<&[Window]>
     ensures { option_map (λ found. found.now) result ≡ keeping.windows_for pc promise.now }
 {
     match promise {
@@ -30,7 +30,7 @@ fn windows_for(pc: u16, promise: &Promise) -> Option<&[Window]>
 }
 
 /// The windows that a promise gives each store.
-fn windows_for_all(promise: &Promise) -> Option<&[Window]>
+pub(crate) fn windows_for_all(promise: &Promise) -> Option<&[Window]>
     ensures { option_map (λ found. found.now) result ≡ keeping.windows_for_all promise.now }
 {
     match promise {
@@ -87,7 +87,7 @@ fn numbered_targets(list: &[(u32, Promise)], pc: u16) -> Option<(u32, &[u16])>
     None
 }
 
-fn is_store(site: Site) -> bool
+pub(crate) fn is_store(site: Site) -> bool
     ensures { result ≡ keeping.is_store site }
 {
     match site {

@@ -16,6 +16,7 @@
 //! - [`push_promise`] adds exactly the line of a promise, and what a line promises its printed sentence promises again
 //!   ([`printed_promises_are_read`]).
 //! - [`broken_by`] gives the line of the promise that a step breaks, and none exactly where it keeps them all.
+//! - [`windows_at`] gives the windows that are promised of an address.
 #![tactic(auto)]
 
 mod breaking;
@@ -30,6 +31,7 @@ mod reading;
 mod sentences;
 mod spoken;
 mod told;
+mod windows;
 
 pub use breaking::broken_by;
 pub use fault::{PromiseError, PromiseFault};
@@ -38,3 +40,4 @@ pub use printing::push_promise;
 pub use promise::{Promise, Window, Windows};
 pub use reading::{MOST_BYTES, read_promises};
 pub use spoken::{Growth, Site, Spoken};
+pub use windows::windows_at;

@@ -23,11 +23,11 @@ use Rattle.chip_law.specs.Machine.{Machine}
 use Rattle.mcs51_flow.specs.Standing.{instr_text as mcs51_text}
 use Rattle.mcs51_flow.specs.Chip.{mcs51_analysis, IsSetting as IsMcs51Program}
 use Rattle.mcs51_flow.specs.declared.setting.Setting.{Setting as Mcs51Setting}
-use Rattle.mcs51_flow.specs.Machine.{mcs51_machine}
+use Rattle.mcs51_flow.specs.Machine.{machine_if as mcs51_machine_if}
 use Rattle.msp430_flow.specs.Standing.{instr_text as msp430_text}
 use Rattle.msp430_flow.specs.Chip.{msp430_analysis, IsSetting as IsMsp430Program}
 use Rattle.msp430_flow.specs.declared.setting.Setting.{Setting as Msp430Setting}
-use Rattle.msp430_flow.specs.Machine.{msp430_machine}
+use Rattle.msp430_flow.specs.Machine.{machine_if as msp430_machine_if}
 use Rattle.run_trace.specs.declared.trace.End.{End}
 use Rattle.run_trace.specs.declared.trace.End.TheVariants as ended
 use Rattle.run_trace.specs.Trace.{Ended}
@@ -129,10 +129,10 @@ shows_of program analysis shows base text_of workers report journal is_program i
 
 -- what is known of the reports of both chips
 abbrev pub CoverMsp430 : Type 0
-CoverMsp430 = CoverRuns IsMsp430Program (λ (setting : Msp430Setting). msp430_machine setting.device) msp430_analysis
+CoverMsp430 = CoverRuns IsMsp430Program msp430_machine_if msp430_analysis
 
 abbrev pub CoverMcs51 : Type 0
-CoverMcs51 = CoverRuns IsMcs51Program (λ (setting : Mcs51Setting). mcs51_machine setting.image) mcs51_analysis
+CoverMcs51 = CoverRuns IsMcs51Program mcs51_machine_if mcs51_analysis
 
 abbrev ShowMsp430 : Type 0
 ShowMsp430 = ShowSites IsMsp430Program msp430_analysis
@@ -181,10 +181,10 @@ pub covers_image : CoverMsp430 → CoverMcs51
     → (target : Target) (limits : Limits) (workers : ℕ) (image : List (Option ℕ)) (report : List ℕ) (journal : List Event)
     → IsGiven target limits image → IsAnalysedOn target limits workers image Done report journal → CoversRunsOf target image report
 covers_image msp430 mcs51 (Msp430 ram) limits workers image report journal given is =
-    covers_of IsMsp430Program (λ (setting : Msp430Setting). msp430_machine setting.device) msp430_analysis msp430 (msp430_setting ram limits image) msp430_text
+    covers_of IsMsp430Program msp430_machine_if msp430_analysis msp430 (msp430_setting ram limits image) msp430_text
     workers report journal (is_msp430 ram limits image given) is
 covers_image msp430 mcs51 Mcs51 limits workers image report journal given is =
-    covers_of IsMcs51Program (λ (setting : Mcs51Setting). mcs51_machine setting.image) mcs51_analysis mcs51 (mcs51_setting limits image) mcs51_text
+    covers_of IsMcs51Program mcs51_machine_if mcs51_analysis mcs51 (mcs51_setting limits image) mcs51_text
     workers report journal (is_mcs51 limits image given) is
 
 shows_image : ShowMsp430 → ShowMcs51
@@ -422,10 +422,10 @@ HoldRuns {B} program machine analysis = (base : B) (text_of : ℕ → List ℕ �
     → broken_in text_of (analysis base) list journal ≡ [] → Holds (machine base) list
 
 abbrev HoldMsp430 : Type 0
-HoldMsp430 = HoldRuns IsMsp430Program (λ (setting : Msp430Setting). msp430_machine setting.device) msp430_analysis
+HoldMsp430 = HoldRuns IsMsp430Program msp430_machine_if msp430_analysis
 
 abbrev HoldMcs51 : Type 0
-HoldMcs51 = HoldRuns IsMcs51Program (λ (setting : Mcs51Setting). mcs51_machine setting.image) mcs51_analysis
+HoldMcs51 = HoldRuns IsMcs51Program mcs51_machine_if mcs51_analysis
 
 none_broken : (list : List Broken) → Done ≡ status_of_broken list → list ≡ []
 none_broken [] e = refl
@@ -444,10 +444,10 @@ holds_image : HoldMsp430 → HoldMcs51
     (journal : List Event) → IsGiven target limits image
     → IsDecidedOn target limits workers image list Done text journal → HoldOn target image list
 holds_image msp430 mcs51 (Msp430 ram) limits workers image list text journal given is =
-    holds_of IsMsp430Program (λ (setting : Msp430Setting). msp430_machine setting.device) msp430_analysis msp430 (msp430_setting ram limits image) msp430_text
+    holds_of IsMsp430Program msp430_machine_if msp430_analysis msp430 (msp430_setting ram limits image) msp430_text
     workers list text journal (is_msp430 ram limits image given) is
 holds_image msp430 mcs51 Mcs51 limits workers image list text journal given is =
-    holds_of IsMcs51Program (λ (setting : Mcs51Setting). mcs51_machine setting.image) mcs51_analysis mcs51 (mcs51_setting limits image) mcs51_text
+    holds_of IsMcs51Program mcs51_machine_if mcs51_analysis mcs51 (mcs51_setting limits image) mcs51_text
     workers list text journal (is_mcs51 limits image given) is
 
 -- what is told of a second text that the input gives
@@ -501,11 +501,11 @@ VerdictsCover {B} program machine analysis texts = (base : B) (text_of : ℕ →
     → IsVerdict text_of (analysis base) (texts base) text true told → CoversEveryRun (machine base) text_of told
 
 abbrev VerdictsMsp430 : Type 0
-VerdictsMsp430 = VerdictsCover IsMsp430Program (λ (setting : Msp430Setting). msp430_machine setting.device) msp430_analysis
+VerdictsMsp430 = VerdictsCover IsMsp430Program msp430_machine_if msp430_analysis
     (λ (setting : Msp430Setting). msp430_texts setting.device)
 
 abbrev VerdictsMcs51 : Type 0
-VerdictsMcs51 = VerdictsCover IsMcs51Program (λ (setting : Mcs51Setting). mcs51_machine setting.image) mcs51_analysis (λ (setting : Mcs51Setting). mcs51_texts)
+VerdictsMcs51 = VerdictsCover IsMcs51Program mcs51_machine_if mcs51_analysis (λ (setting : Mcs51Setting). mcs51_texts)
 
 done_closed : (is_closed : Bool) → Done ≡ status_of_verdict is_closed → is_closed ≡ true
 done_closed true e = refl

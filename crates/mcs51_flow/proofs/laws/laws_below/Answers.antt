@@ -10,5 +10,6 @@ returns c = record {
   entries = c.interrupt_laws.ensures;
   returns = c.return_laws.ensures;
   resumptions = c.resumption_laws.ensures;
+  fronts = c.front_laws.ensures;
   instructions = c.instructions_do.ensures;
 }

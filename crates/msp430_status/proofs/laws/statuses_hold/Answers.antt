@@ -1,5 +1,5 @@
+use Rattle.msp430_status.proofs.Doing.{status_comes, status_made}
 use Rattle.msp430_status.proofs.Moves.{StatusLaws}
-use Rattle.msp430_status.proofs.StatusLaw.{status_law, status_shown, status_hit, status_form, status_next, status_even}
 use Rattle.msp430_status.proofs.laws.statuses_hold.Goals as goal
 
 pub returns : goal.returns
@@ -10,11 +10,4 @@ returns c =
       doubles = c.doubles_hold.ensures;
       places = c.place_laws.ensures;
     } in
-    record {
-      left = status_law laws;
-      shown = status_shown laws;
-      hit = status_hit;
-      form = status_form laws;
-      next = status_next laws;
-      even = status_even laws;
-    }
+    record { comes = status_comes laws; made = status_made laws }

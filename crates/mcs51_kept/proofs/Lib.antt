@@ -1,0 +1,4 @@
+pub mod Storing
+pub mod Windows
+pub mod Registers
+pub mod InFront

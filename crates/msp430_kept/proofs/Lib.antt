@@ -1,0 +1,4 @@
+pub mod InFront
+pub mod Pointers
+pub mod Stores
+pub mod Windows

@@ -1,0 +1,4 @@
+pub mod Front
+pub mod Keeping
+pub mod Laws
+pub mod Sites
