@@ -27,7 +27,7 @@ use Rattle.msp430_decode.specs.Table.{IsInstr, length_of, target_of}
 use Rattle.msp430_chip.specs.Arithmetic.{modulus}
 use Rattle.msp430_chip.specs.declared.device.Device.{Device}
 use Rattle.msp430_chip.specs.declared.state.ChipState.{ChipState}
-use Rattle.msp430_chip.specs.Leading.{MayDouble, MayPush, MayReturn, MayRun, MaySingle}
+use Rattle.msp430_chip.specs.Leading.{MayDouble, MayReturn, MayRun, MaySingle}
 use Rattle.msp430_chip.specs.Outcome.{Outcome}
 use Rattle.msp430_chip.specs.State.{register_of}
 use Rattle.msp430_chip.specs.Step.{Left, behind, done, is_taken, jump}
@@ -36,7 +36,7 @@ use Rattle.msp430_state.specs.Forms.{IsFact, IsKnown}
 use Rattle.msp430_state.specs.Holding.{HoldsOfFact, HoldsOfParts, HoldsOfStatus, HasFlagsOf, GoesOn, StandsIn, suspended_of}
 use Rattle.msp430_state.specs.Known.{Known, known_joined, word_of}
 use Rattle.msp430_alu.specs.Doing.{ComesTo, Here, StandsHere, counter_of}
-use Rattle.msp430_alu.specs.Formats.{AreShown, IsHit, Worked, push_worked}
+use Rattle.msp430_alu.specs.Formats.{AreShown, IsHit, Worked}
 use Rattle.msp430_results.specs.Results.{HasWidth}
 use Rattle.msp430_branch.specs.Cuts.{known_cut}
 use Rattle.chip_flow.specs.Along.{HasWay as GoesAlong, way_jumped, way_on}
@@ -51,11 +51,11 @@ abbrev pub HasWay : Device → Option ChipState → List (Way Known) → (to : �
 HasWay device first all to registers ram = GoesAlong (λ b. HoldsOfParts device b first registers ram) all to
 
 -- what is made of what is known of a state by an instruction at its PC
-abbrev pub made_of : Here → Instr → Worked
-made_of here instr_so = worked here.device here.framed here.known (counter_of here) instr_so
+abbrev pub made_here : Here → Instr → Worked
+made_here here instr_so = worked here.device here.framed here.known (counter_of here) instr_so
 
 abbrev Comes : Here → Instr → Left → Outcome ChipState → Type 0
-Comes here instr_so left outcome = ComesTo here (made_of here instr_so) instr_so (stored_width instr_so) left outcome
+Comes here instr_so left outcome = ComesTo here (made_here here instr_so) instr_so (stored_width instr_so) left outcome
 
 -- a return from its frame's interrupt leaves the state at the exit
 pub record LeavesFrame (here : Here) (made_so : Worked) (frame : Frame) (left : Left) : Type 0 where
@@ -65,7 +65,7 @@ pub record LeavesFrame (here : Here) (made_so : Worked) (frame : Frame) (left : 
 abbrev pub GoesBack : Here → Instr → Left → Type 0
 GoesBack here instr_so left =
     (frame : Frame) → StandsIn frame here.first → leaves_frame here.device frame here.known instr_so ≡ true
-    → LeavesFrame here (made_of here instr_so) frame left
+    → LeavesFrame here (made_here here instr_so) frame left
 
 -- what the instruction at PC comes to
 pub record IsRun (here : Here) (instr_so : Instr) (outcome : Outcome ChipState) : Type 0 where
@@ -74,9 +74,9 @@ pub record IsRun (here : Here) (instr_so : Instr) (outcome : Outcome ChipState) 
   pub outcome_is : outcome ≡ done here.state instr_so accesses left
   pub way : let ways = all_ways here.device here.framed here.known (counter_of here) instr_so in
       HasWay here.device here.first ways (slice_index left.registers 0) left.registers left.ram
-  pub shown : AreShown (made_of here instr_so).accesses accesses
+  pub shown : AreShown (made_here here instr_so).accesses accesses
   pub hit : (at : ℕ) → left.hit ≡ Some at
-      → IsHit here.device (stored_width instr_so) (made_of here instr_so).store at
+      → IsHit here.device (stored_width instr_so) (made_here here instr_so).store at
   pub back : GoesBack here instr_so left
 
 parts_followed : (device : Device) (late : Tri) (fact : Option FlagFact) (b : Known) (first : Option ChipState) (registers ram : List ℕ)
@@ -87,12 +87,12 @@ parts_followed device late fact b first registers ram h told = assumption (h, to
 -- an instruction that goes to each address that PC may have
 by_next : Laws → (here : Here) (instr_so : Instr) (left : Left) (outcome : Outcome ChipState)
     → let after = known_behind here.device here.framed here.known (counter_of here) instr_so in
-    all_ways here.device here.framed here.known (counter_of here) instr_so ≡ ways_to (made_of here instr_so).next after
-    → Comes here instr_so left outcome → HoldsOfFact (fact_of instr_so (made_of here instr_so).after) left.registers
+    all_ways here.device here.framed here.known (counter_of here) instr_so ≡ ways_to (made_here here instr_so).next after
+    → Comes here instr_so left outcome → HoldsOfFact (fact_of instr_so (made_here here instr_so).after) left.registers
     → GoesBack here instr_so left → IsRun here instr_so outcome
 by_next laws here instr_so left outcome is comes fact back =
     let to = slice_index left.registers 0 in
-    let made_so = made_of here instr_so in
+    let made_so = made_here here instr_so in
     let behind_so = known_behind here.device here.framed here.known (counter_of here) instr_so in
     let way : Way Known = (to, behind_so) in
     record {
@@ -135,7 +135,7 @@ double_run : Laws → (here : Here) (operation : Operation) (width : Width) (ori
 double_run laws here operation width origin target outcome under fits may =
     let i = instr.Double operation width origin target in
     let comes = double_comes laws here operation width origin target outcome under fits may in
-    let fact = laws.facts.holds here.device (made_of here i).after here.state here.first (length_of i) operation width
+    let fact = laws.facts.holds here.device (made_here here i).after here.state here.first (length_of i) operation width
     origin target outcome under.holds.state may comes.left_so.parts in
     by_next laws here i may.left outcome refl comes fact (λ frame standing leaves. absurd (false≢true leaves))
 
@@ -174,17 +174,6 @@ single_run : Laws → (here : Here) (operation : SingleOperation) (width : Width
 single_run laws here operation width operand left outcome comes =
     by_next laws here (instr.Single operation width operand) left outcome refl comes comes.left_so.parts.fact
     (λ frame standing leaves. absurd (false≢true leaves))
-
-push_comes : Laws → (here : Here) (operation : SingleOperation) (width : Width) (operand : Source)
-    (outcome : Outcome ChipState)
-    → StandsHere here → IsInstr (instr.Single operation width operand)
-    → let len = length_of (instr.Single operation width operand) in
-    (may : MayPush here.device here.state len operation width operand outcome)
-    → let made_so = push_worked here.device here.framed here.known (counter_of here) len operation width operand in
-    ComesTo here made_so (instr.Single operation width operand) Word may.left outcome
-push_comes laws here operation width operand outcome under fits may =
-    laws.pushes.comes here (length_of (instr.Single operation width operand)) operation width operand outcome under
-    fits.0 may
 
 -- JUMPS
 
@@ -297,7 +286,7 @@ return_run laws here outcome under may =
     by_next laws here instr.ReturnFromInterrupt left outcome refl comes comes.left_so.parts.fact
     (λ frame standing leaves. record {
       goes = λ t same. laws.returns.back here t frame outcome under standing leaves may same;
-      parts = parts_followed here.device (gie_of here.known) None (made_of here instr.ReturnFromInterrupt).after here.first
+      parts = parts_followed here.device (gie_of here.known) None (made_here here instr.ReturnFromInterrupt).after here.first
           left.registers left.ram comes.left_so.parts tt;
     })
 
@@ -309,17 +298,25 @@ pub instr_run : Laws → (here : Here) (instr_so : Instr) (outcome : Outcome Chi
 instr_run laws here (instr.Double operation width origin target) outcome under fits may =
     double_run laws here operation width origin target outcome under fits may
 instr_run laws here (instr.Single Push width operand) outcome under fits may =
-    single_run laws here Push width operand may.left outcome (push_comes laws here Push width operand outcome under fits may)
+    let len = length_of (instr.Single Push width operand) in
+    single_run laws here Push width operand may.left outcome
+    (laws.pushes.comes here len Push width operand outcome under fits.0 may)
 instr_run laws here (instr.Single Call width operand) outcome under fits may =
-    single_run laws here Call width operand may.left outcome (push_comes laws here Call width operand outcome under fits may)
+    let len = length_of (instr.Single Call width operand) in
+    single_run laws here Call width operand may.left outcome
+    (laws.pushes.comes here len Call width operand outcome under fits.0 may)
 instr_run laws here (instr.Single Rrc width operand) outcome under fits may =
-    single_run laws here Rrc width operand may.left outcome (plain_comes laws here Rrc width operand outcome under fits may)
+    single_run laws here Rrc width operand may.left outcome
+    (plain_comes laws here Rrc width operand outcome under fits may)
 instr_run laws here (instr.Single Swpb width operand) outcome under fits may =
-    single_run laws here Swpb width operand may.left outcome (plain_comes laws here Swpb width operand outcome under fits may)
+    single_run laws here Swpb width operand may.left outcome
+    (plain_comes laws here Swpb width operand outcome under fits may)
 instr_run laws here (instr.Single Rra width operand) outcome under fits may =
-    single_run laws here Rra width operand may.left outcome (plain_comes laws here Rra width operand outcome under fits may)
+    single_run laws here Rra width operand may.left outcome
+    (plain_comes laws here Rra width operand outcome under fits may)
 instr_run laws here (instr.Single Sxt width operand) outcome under fits may =
-    single_run laws here Sxt width operand may.left outcome (plain_comes laws here Sxt width operand outcome under fits may)
+    single_run laws here Sxt width operand may.left outcome
+    (plain_comes laws here Sxt width operand outcome under fits may)
 instr_run laws here (instr.Jump condition offset) outcome under fits may =
     jump_run laws here condition offset outcome under may
 instr_run laws here instr.ReturnFromInterrupt outcome under fits may = return_run laws here outcome under may
