@@ -177,6 +177,12 @@ single_run laws here operation width operand left outcome comes =
 
 -- JUMPS
 
+-- what a fact says, by the number in its register and SR
+abbrev SaysOf : FlagFact → (value sr : ℕ) → Type 0
+SaysOf fact value sr =
+    HasFlagsOf fact.width ((value + fact.added) % modulus fact.width) fact.compared sr
+    × (fact.width ≡ Byte → value < 256)
+
 -- a fact speaks of SR and of one of R4 to R15
 jumped_fact : (fact : Option FlagFact) (registers : List ℕ) (next : ℕ) → IsFact fact → HoldsOfFact fact registers
     → HoldsOfFact fact (slice_set registers 0 next)
@@ -185,8 +191,8 @@ jumped_fact (Some fact) registers next is h =
     let low : 3 < fact.register = is.0 in
     let value = get_or-set_other registers 0 fact.register next 0 (λ e. omega arith) in
     let sr = get_or-set_other registers 0 2 next 0 (λ e. omega arith) in
-    subst (λ v. HasFlagsOf fact.width ((v + fact.added) % modulus fact.width) fact.compared (slice_index (slice_set registers 0 next) 2) × (fact.width ≡ Byte → v < 256)) (sym value)
-    (subst (λ r. HasFlagsOf fact.width ((slice_index registers fact.register + fact.added) % modulus fact.width) fact.compared r × (fact.width ≡ Byte → slice_index registers fact.register < 256)) (sym sr) h)
+    subst (λ v. SaysOf fact v (slice_index (slice_set registers 0 next) 2)) (sym value)
+    (subst (SaysOf fact (slice_index registers fact.register)) (sym sr) h)
 
 -- registers with another PC
 jumped_parts : (device : Device) (a : Known) (s : ChipState) (first : Option ChipState) (next : ℕ) → IsFact a.fact
@@ -205,11 +211,23 @@ jumped_parts device a s first next is h =
       untouched = h.untouched;
     }
 
-jump_is : (s : ChipState) (condition : Condition) (offset : ℕ) (taken : Bool) → is_taken condition (register_of s 2) ≡ taken
-    → jump s condition offset ≡ done s (instr.Jump condition offset) [] (record { registers = slice_set s.registers 0 (cond taken (target_of (register_of s 0) offset) (behind s 2)); ram = s.ram; hit = None })
+-- what a jump leaves
+abbrev jump_left : ChipState → (offset : ℕ) → (taken : Bool) → Left
+jump_left s offset taken = record {
+  registers = slice_set s.registers 0 (cond taken (target_of (register_of s 0) offset) (behind s 2));
+  ram = s.ram;
+  hit = None;
+}
+
+jump_is : (s : ChipState) (condition : Condition) (offset : ℕ) (taken : Bool)
+    → is_taken condition (register_of s 2) ≡ taken
+    → jump s condition offset ≡ done s (instr.Jump condition offset) [] (jump_left s offset taken)
 unfolding jump
-jump_is s condition offset taken e =
-    ap (λ t. done s (instr.Jump condition offset) [] (record { registers = slice_set s.registers 0 (cond t (target_of (register_of s 0) offset) (behind s 2)); ram = s.ram; hit = None })) e
+jump_is s condition offset taken e = ap (λ t. done s (instr.Jump condition offset) [] (jump_left s offset t)) e
+
+abbrev jump_ways : (pc offset : ℕ) → Condition → Known → List (Way Known)
+jump_ways pc offset condition a =
+    ways_in known_joined (ways_onward pc (instr.Jump condition offset) (single ((pc + 2) % 65536)) a)
 
 module _ (laws : Laws) (device : Device) (framed : Bool) (first : Option ChipState) (registers ram : List ℕ) where
   abbrev Is : Known → Type 0
@@ -220,10 +238,14 @@ module _ (laws : Laws) (device : Device) (framed : Bool) (first : Option ChipSta
 
   -- what is known on one of two ways that are joined
   joined_first : (a b : Known) → Is a → Is b → Holds a → Holds (known_joined a b)
-  joined_first a b f g h = laws.states.parts device device.ram.lo device.ram.hi framed a (known_joined a b) first registers ram f (laws.states.join_held device.ram.lo device.ram.hi framed a b f g) h
+  joined_first a b f g h =
+      let within = laws.states.join_held device.ram.lo device.ram.hi framed a b f g in
+      laws.states.parts device device.ram.lo device.ram.hi framed a (known_joined a b) first registers ram f within h
 
   joined_second : (a b : Known) → Is a → Is b → Holds b → Holds (known_joined a b)
-  joined_second a b f g h = laws.states.parts device device.ram.lo device.ram.hi framed b (known_joined a b) first registers ram g (laws.states.join_new device.ram.lo device.ram.hi framed a b f g) h
+  joined_second a b f g h =
+      let within = laws.states.join_new device.ram.lo device.ram.hi framed a b f g in
+      laws.states.parts device device.ram.lo device.ram.hi framed b (known_joined a b) first registers ram g within h
 
   cut_known : (condition : Condition) (taken : Bool) (a : Known) (found : Option Known) → Is a
       → known_cut condition taken a ≡ found → IfSome found Is
@@ -231,16 +253,24 @@ module _ (laws : Laws) (device : Device) (framed : Bool) (first : Option ChipSta
   cut_known condition taken a (Some b) f e = laws.cuts.form device.ram.lo device.ram.hi framed a b condition taken f e
 
   -- the way that a jump takes
-  way_of_jump : (pc offset : ℕ) (condition : Condition) (taken : Bool) (a b : Known) → Is a → known_cut condition taken a ≡ Some b → Holds b
-      → HasWay device first (ways_in known_joined (ways_onward pc (instr.Jump condition offset) (single ((pc + 2) % 65536)) a)) (cond taken (target_of pc offset) ((pc + 2) % 65536)) registers ram
+  way_of_jump : (pc offset : ℕ) (condition : Condition) (taken : Bool) (a b : Known)
+      → Is a → known_cut condition taken a ≡ Some b → Holds b
+      → let to = cond taken (target_of pc offset) ((pc + 2) % 65536) in
+      HasWay device first (jump_ways pc offset condition a) to registers ram
   way_of_jump pc offset condition true a b f e h =
       let on = known_cut condition false a in
       let jumped = known_cut condition true a in
-      way_jumped laws.ways known_joined Is Holds ((pc + 2) % 65536) (target_of pc offset) on jumped (cut_known condition false a on f refl) (cut_known condition true a jumped f refl) joined_second b e h
+      let on_is = cut_known condition false a on f refl in
+      let jumped_is = cut_known condition true a jumped f refl in
+      way_jumped laws.ways known_joined Is Holds ((pc + 2) % 65536) (target_of pc offset) on jumped on_is jumped_is
+      joined_second b e h
   way_of_jump pc offset condition false a b f e h =
       let on = known_cut condition false a in
       let jumped = known_cut condition true a in
-      way_on laws.ways known_joined Is Holds ((pc + 2) % 65536) (target_of pc offset) on jumped (cut_known condition false a on f refl) (cut_known condition true a jumped f refl) joined_first b e h
+      let on_is = cut_known condition false a on f refl in
+      let jumped_is = cut_known condition true a jumped f refl in
+      way_on laws.ways known_joined Is Holds ((pc + 2) % 65536) (target_of pc offset) on jumped on_is jumped_is
+      joined_first b e h
 
 pub late_form : (lo hi : ℕ) (framed : Bool) (late : Tri) (fact : Option FlagFact) (b : Known) → IsFact fact
     → IsKnown lo hi framed b → IsKnown lo hi framed (followed late fact b)
@@ -265,12 +295,14 @@ jump_run laws here condition offset outcome under is =
     (parts_followed device (gie_of a) a.fact a first s.registers s.ram under.holds.parts under.holds.parts.fact) in
     let fact : IsFact b.fact = (laws.cuts.form device.ram.lo device.ram.hi framed ahead b condition taken form cut_so).fact in
     let long : 0 < length s.registers = omega (arith, under.holds.state.registers) in
-    let way = way_of_jump laws device framed first registers s.ram pc offset condition taken ahead b form cut_so (jumped_parts device b s first next fact parts) in
+    let way = way_of_jump laws device framed first registers s.ram pc offset condition taken ahead b form cut_so
+    (jumped_parts device b s first next fact parts) in
     record {
-      left = record { registers = registers; ram = s.ram; hit = None };
+      left = jump_left s offset taken;
       accesses = [];
       outcome_is = is ∙ jump_is s condition offset taken refl;
-      way = subst (λ to. HasWay device first (ways_in known_joined (ways_onward pc (instr.Jump condition offset) (single ((pc + 2) % 65536)) ahead)) to registers s.ram) (sym (get_or-set_same s.registers 0 next 0 long)) way;
+      way = subst (λ to. HasWay device first (jump_ways pc offset condition ahead) to registers s.ram)
+          (sym (get_or-set_same s.registers 0 next 0 long)) way;
       shown = λ single_so there. absurd (in_none single_so there);
       hit = λ at none. absurd (cc);
       back = λ frame standing leaves. absurd (false≢true leaves);
