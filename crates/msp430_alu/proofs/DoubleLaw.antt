@@ -158,13 +158,13 @@ flags_put {next} {left} {made_set} {made_so} form made_is put = record {
   parts = flags_written made_set.1 made_so.1 put.are.count form.bits form.fact made_is.flags put.parts;
 }
 
-pub double_law : (laws : InstructionLaws) (device : Device) (framed : Bool) (a : Known) (s : ChipState) (first : Option ChipState) (len : ℕ) (done : Operation) (width : Width)
-    (origin : Source) (target : Destination) (outcome : Outcome ChipState)
+pub double_law : (laws : InstructionLaws) {device : Device} {framed : Bool} {a : Known} {s : ChipState} {first : Option ChipState} {len : ℕ} {done : Operation} {width : Width}
+    {origin : Source} {target : Destination} {outcome : Outcome ChipState}
     → IsUnder device framed a s first → IsSource origin → IsDestination target → LeavesStatus target
     → (may : MayDouble device s len done width origin target outcome)
     → let worked = double_worked device framed a (register_of s 0) len done width origin target in IsLeft device worked.after first worked.next may.left
 unfolding double_worked
-double_law laws device framed a s first len done width origin target outcome under from_so to_so leaves may =
+double_law laws {device} {framed} {a} {s} {first} {len} {done} {width} {origin} {target} {outcome} under from_so to_so leaves may =
     let pc = register_of s 0 in
     let counted = may.counted in
     let suspended = option_map suspended_of first in

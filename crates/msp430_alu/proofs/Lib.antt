@@ -16,4 +16,3 @@ pub mod Showing
 pub mod ReadLists
 pub mod WrittenWords
 pub mod WordsInMemory
-pub mod Doing

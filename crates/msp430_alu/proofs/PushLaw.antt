@@ -241,13 +241,13 @@ pub push_forming : (laws : InstructionLaws) {device : Device} {framed : Bool} {a
 push_forming laws {s = s} {len = len} {operand = operand} under may =
     forming_on laws operand may.option may.formed (on_the_way under.form under.holds (omega arith) (behind_is laws s len))
 
-pub push_law : (laws : InstructionLaws) (device : Device) (framed : Bool) (a : Known) (s : ChipState) (first : Option ChipState) (len : ℕ) (done : SingleOperation) (width : Width)
-    (operand : Source)
-    (outcome : Outcome ChipState) → IsUnder device framed a s first → IsSource operand
+pub push_law : (laws : InstructionLaws) {device : Device} {framed : Bool} {a : Known} {s : ChipState} {first : Option ChipState} {len : ℕ} {done : SingleOperation} {width : Width}
+    {operand : Source}
+    {outcome : Outcome ChipState} → IsUnder device framed a s first → IsSource operand
     → (may : MayPush device s len done width operand outcome)
     → let worked = push_worked device framed a (register_of s 0) len done width operand in IsLeft device worked.after first worked.next may.left
 unfolding push_worked
-push_law laws device framed a s first len done width operand outcome under from_so may =
+push_law laws {device} {framed} {a} {s} {first} {len} {done} {width} {operand} {outcome} under from_so may =
     let pc = register_of s 0 in
     let counted = behind s len in
     let small : counted < 65536 = omega arith in

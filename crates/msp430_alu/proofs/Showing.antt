@@ -101,14 +101,14 @@ put_if_hit laws is registers ram false width reach stands value at reached e = a
 
 -- TWO OPERANDS
 
-pub double_shown : (laws : InstructionLaws) (device : Device) (framed : Bool) (a : Known) (s : ChipState) (first : Option ChipState) (len : ℕ) (done : Operation) (width : Width)
-    (origin : Source) (target : Destination) (outcome : Outcome ChipState)
+pub double_shown : (laws : InstructionLaws) {device : Device} {framed : Bool} {a : Known} {s : ChipState} {first : Option ChipState} {len : ℕ} {done : Operation} {width : Width}
+    {origin : Source} {target : Destination} {outcome : Outcome ChipState}
     → IsUnder device framed a s first → IsSource origin → IsDestination target
     → (may : MayDouble device s len done width origin target outcome)
     → AreShown (double_worked device framed a (register_of s 0) len done width origin target).accesses
     (double_accesses device (register_of s 0) done width (origin_of s may.counted origin) (place_of s len may.counted width origin target))
 unfolding double_worked
-double_shown laws device framed a s first len done width origin target outcome under from_so to_so may =
+double_shown laws {device} {framed} {a} {s} {first} {len} {done} {width} {origin} {target} {outcome} under from_so to_so may =
     let pc = register_of s 0 in
     let counted_so = counter_set pc len origin target in
     let way = way laws under (counter_is laws s len origin target may.counted may.counts) width origin from_so in
@@ -124,13 +124,13 @@ double_shown laws device framed a s first len done width origin target outcome u
     (shown_both (access_of device pc false width from) reads (access_to device pc false width one) reads_so (access_shown laws under.device_so.ram pc false width from one way.source)
     (read_shown laws under.device_so.ram (reads_destination done) pc width to two goal)) (write_shown laws under.device_so.ram (writes_result done) pc width to two goal)
 
-pub double_hit : (laws : InstructionLaws) (device : Device) (framed : Bool) (a : Known) (s : ChipState) (first : Option ChipState) (len : ℕ) (done : Operation) (width : Width)
-    (origin : Source) (target : Destination) (outcome : Outcome ChipState) (at : ℕ)
+pub double_hit : (laws : InstructionLaws) {device : Device} {framed : Bool} {a : Known} {s : ChipState} {first : Option ChipState} {len : ℕ} {done : Operation} {width : Width}
+    {origin : Source} {target : Destination} {outcome : Outcome ChipState} (at : ℕ)
     → IsUnder device framed a s first → IsSource origin → IsDestination target
     → (may : MayDouble device s len done width origin target outcome) → may.left.hit ≡ Some at
     → IsHit device width (double_worked device framed a (register_of s 0) len done width origin target).store at
 unfolding double_worked
-double_hit laws device framed a s first len done width origin target outcome at under from_so to_so may e =
+double_hit laws {device} {framed} {a} {s} {first} {len} {done} {width} {origin} {target} {outcome} at under from_so to_so may e =
     let way = way laws under (counter_is laws s len origin target may.counted may.counts) width origin from_so in
     let goal = destination_reached laws way.behind (register_of s 0) len target to_so in
     let registers = set (behind_source s may.counted width origin) 0 (behind s len) in
@@ -157,13 +157,13 @@ single_shown laws device framed a s first len done width operand under from_so =
     shown_both (access_of device pc false width from) (access_of device pc true width from) (access_to device pc false width one) (access_to device pc true width one)
     (access_shown laws under.device_so.ram pc false width from one reached) (access_shown laws under.device_so.ram pc true width from one reached)
 
-pub single_hit : (laws : InstructionLaws) (device : Device) (framed : Bool) (a : Known) (s : ChipState) (first : Option ChipState) (len : ℕ) (done : SingleOperation) (width : Width)
-    (operand : Source) (outcome : Outcome ChipState) (at : ℕ)
+pub single_hit : (laws : InstructionLaws) {device : Device} {framed : Bool} {a : Known} {s : ChipState} {first : Option ChipState} {len : ℕ} {done : SingleOperation} {width : Width}
+    {operand : Source} {outcome : Outcome ChipState} (at : ℕ)
     → IsUnder device framed a s first → IsSource operand → (may : MaySingle device s len done width operand outcome)
     → may.left.hit ≡ Some at
     → IsHit device width (single_worked device framed a (register_of s 0) len done width operand).store at
 unfolding single_worked
-single_hit laws device framed a s first len done width operand outcome at under from_so may e =
+single_hit laws {device} {framed} {a} {s} {first} {len} {done} {width} {operand} {outcome} at under from_so may e =
     let reached = (way laws under (behind_is laws s len) width operand from_so).source in
     elim may.leaves [
       | SingleFree free freed ↦ let none : None ≡ Some at = sym (ap (λ (l : Left). l.hit) freed.left_is) ∙ e in absurd (cc)
@@ -174,14 +174,14 @@ single_hit laws device framed a s first len done width operand outcome at under 
 
 -- PUSH AND CALL
 
-pub push_shown : (laws : InstructionLaws) (device : Device) (framed : Bool) (a : Known) (s : ChipState) (first : Option ChipState) (len : ℕ) (done : SingleOperation) (width : Width)
-    (operand : Source) (outcome : Outcome ChipState)
+pub push_shown : (laws : InstructionLaws) {device : Device} {framed : Bool} {a : Known} {s : ChipState} {first : Option ChipState} {len : ℕ} {done : SingleOperation} {width : Width}
+    {operand : Source} {outcome : Outcome ChipState}
     → IsUnder device framed a s first → IsSource operand → (may : MayPush device s len done width operand outcome)
     → AreShown (push_worked device framed a (register_of s 0) len done width operand).accesses
     (access_to device (register_of s 0) false width (pushed_place s len may.option operand)
     ++ access_to device (register_of s 0) true Words (place.InMemory (lowered (get_or (behind_source s (behind s len) width operand) 1 0))))
 unfolding push_worked
-push_shown laws device framed a s first len done width operand outcome under from_so may =
+push_shown laws {device} {framed} {a} {s} {first} {len} {done} {width} {operand} {outcome} under from_so may =
     let pc = register_of s 0 in
     let from = source_reach pc (forming_known operand a) (single (behind s len)) operand in
     let slot = InMemory (lowered_known (grown_known a (single (behind s len)) width operand)).sp in
@@ -211,11 +211,11 @@ either_hit laws known registers ram Call width x after at left {slot} goal is e 
     plain_hit laws known (set registers 0 (x - x % 2)) ram width x after at left (subst (IsResult 65536 slot) kept goal) is e
 either_hit laws known registers ram other width x after at left goal (word, may, is) e = plain_hit laws known registers ram width x word at left goal is e
 
-pub push_hit : (laws : InstructionLaws) (device : Device) (framed : Bool) (a : Known) (s : ChipState) (first : Option ChipState) (len : ℕ) (done : SingleOperation) (width : Width)
-    (operand : Source) (outcome : Outcome ChipState) (at : ℕ)
+pub push_hit : (laws : InstructionLaws) {device : Device} {framed : Bool} {a : Known} {s : ChipState} {first : Option ChipState} {len : ℕ} {done : SingleOperation} {width : Width}
+    {operand : Source} {outcome : Outcome ChipState} (at : ℕ)
     → IsUnder device framed a s first → IsSource operand → (may : MayPush device s len done width operand outcome) → may.left.hit ≡ Some at
     → IsHit device Words (push_worked device framed a (register_of s 0) len done width operand).store at
 unfolding push_worked
-push_hit laws device framed a s first len done width operand outcome at under from_so may e =
+push_hit laws {device} {framed} {a} {s} {first} {len} {done} {width} {operand} {outcome} at under from_so may e =
     either_hit laws under.device_so.ram (behind_source s (behind s len) width operand) s.ram done width _ (behind s len) at may.left
     (slot_reached laws (way laws under (behind_is laws s len) width operand from_so).behind) may.leaves e

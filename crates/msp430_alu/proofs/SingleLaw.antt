@@ -38,13 +38,13 @@ no_status : (pc : ℕ) (registers : List ℕ) (operand : Source) → LeavesStatu
 no_status pc registers (source.Register Sr) leaves = absurd leaves
 no_status pc registers other leaves = refl
 
-pub single_law : (laws : InstructionLaws) (device : Device) (framed : Bool) (a : Known) (s : ChipState) (first : Option ChipState) (len : ℕ) (done : SingleOperation) (width : Width)
-    (operand : Source) (outcome : Outcome ChipState)
+pub single_law : (laws : InstructionLaws) {device : Device} {framed : Bool} {a : Known} {s : ChipState} {first : Option ChipState} {len : ℕ} {done : SingleOperation} {width : Width}
+    {operand : Source} {outcome : Outcome ChipState}
     → IsUnder device framed a s first → IsSource operand → LeavesStatusAlone operand → HasWidth done width
     → (may : MaySingle device s len done width operand outcome)
     → let worked = single_worked device framed a (register_of s 0) len done width operand in IsLeft device worked.after first worked.next may.left
 unfolding single_worked
-single_law laws device framed a s first len done width operand outcome under from_so leaves fits may =
+single_law laws {device} {framed} {a} {s} {first} {len} {done} {width} {operand} {outcome} under from_so leaves fits may =
     let pc = register_of s 0 in
     let counted = behind s len in
     let small : counted < 65536 = omega arith in

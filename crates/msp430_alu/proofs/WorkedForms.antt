@@ -43,6 +43,7 @@ use Rattle.msp430_state.specs.Forms.{IsRelation, IsWord, IsChipCell, IsKnown}
 use Rattle.msp430_state.specs.Known.{Known}
 use Rattle.msp430_alu.specs.declared.reach.Reach.{Reach}
 use Rattle.msp430_alu.specs.declared.reach.Reach.TheVariants.{InRegister, InMemory, Fixed}
+use Rattle.msp430_alu.specs.Doing.{IsWellMade}
 use Rattle.msp430_alu.specs.Formats.{lowered_known, forming_known, pushed_known, called_next, push_worked, single_worked, double_worked, constant_of, relation_of, counter_set, is_doubled, carry_of, destination_word, made_of, put_known, put_known_if, next_by, next_if, double_worked}
 use Rattle.msp430_results.specs.Words.{values_of, written_word}
 use Rattle.msp430_results.specs.FlagSets.{MadeSet}
@@ -343,21 +344,15 @@ double_forms laws {device} {framed} {a} is form pc len done width origin target 
       next_so = next_if_form laws (writes_result done) to word ((pc + len) % 65536) writable.word_so.normal (omega arith);
     }
 
--- the parts of `double_worked`
-pub record WorkedForm (device : Device) (framed : Bool) (after : Known) (ahead : ℕ) (next : Form) : Type 0 where
-  pub after_so : IsKnown device.ram.lo device.ram.hi framed after
-  pub next_so : AreNext ahead next
-
-pub double_worked_form : (laws : InstructionLaws)
-    → {device : Device} {framed : Bool} {a : Known} (pc len : ℕ) (done : Operation) (width : Width) (origin : Source) (target : Destination)
+pub double_well_made : (laws : InstructionLaws)
+    → (device : Device) (framed : Bool) (a : Known) (pc len : ℕ) (done : Operation) (width : Width) (origin : Source) (target : Destination)
     → IsDevice device
     → IsKnown device.ram.lo device.ram.hi framed a → IsSource origin → IsDestination target
-    → WorkedForm device framed (double_worked device framed a pc len done width origin target).after ((pc + len) % 65536)
-    (double_worked device framed a pc len done width origin target).next
+    → IsWellMade device framed ((pc + len) % 65536) (double_worked device framed a pc len done width origin target)
 unfolding double_worked
-double_worked_form laws pc len done width origin target is form from_so to_so =
+double_well_made laws device framed a pc len done width origin target is form from_so to_so =
     let forms = double_forms laws is form pc len done width origin target from_so to_so in
-    record { after_so = forms.after_so; next_so = forms.next_so }
+    record { form = forms.after_so; next = forms.next_so.normal; even = forms.next_so.even }
 
 -- ONE OPERAND
 
@@ -392,15 +387,15 @@ single_forms laws {device} {framed} {a} is form pc len done width operand from_s
       next_so = next_form laws from word ((pc + len) % 65536) writable.word_so.normal (omega arith);
     }
 
-pub single_worked_form : (laws : InstructionLaws)
-    → {device : Device} {framed : Bool} {a : Known} (pc len : ℕ) (done : SingleOperation) (width : Width) (operand : Source)
+pub single_well_made : (laws : InstructionLaws)
+    → (device : Device) (framed : Bool) (a : Known) (pc len : ℕ) (done : SingleOperation) (width : Width) (operand : Source)
     → IsDevice device
     → IsKnown device.ram.lo device.ram.hi framed a → IsSource operand → HasWidth done width
-    → WorkedForm device framed (single_worked device framed a pc len done width operand).after ((pc + len) % 65536) (single_worked device framed a pc len done width operand).next
+    → IsWellMade device framed ((pc + len) % 65536) (single_worked device framed a pc len done width operand)
 unfolding single_worked
-single_worked_form laws pc len done width operand is form from_so fits =
+single_well_made laws device framed a pc len done width operand is form from_so fits =
     let forms = single_forms laws is form pc len done width operand from_so fits in
-    record { after_so = forms.after_so; next_so = forms.next_so }
+    record { form = forms.after_so; next = forms.next_so.normal; even = forms.next_so.even }
 
 -- PUSH AND CALL
 
@@ -438,13 +433,13 @@ called_form laws {framed} Call width {x} after small is =
     parts_next laws after target.set (written_form laws framed width (values_of width x) None (values_form laws width is) (no_relation framed)).word_so.normal
 called_form laws other width after small is = ahead_next laws after small
 
-pub push_worked_form : (laws : InstructionLaws)
-    → {device : Device} {framed : Bool} {a : Known} (pc len : ℕ) (done : SingleOperation) (width : Width) (operand : Source)
+pub push_well_made : (laws : InstructionLaws)
+    → (device : Device) (framed : Bool) (a : Known) (pc len : ℕ) (done : SingleOperation) (width : Width) (operand : Source)
     → IsDevice device
     → IsKnown device.ram.lo device.ram.hi framed a → IsSource operand
-    → WorkedForm device framed (push_worked device framed a pc len done width operand).after ((pc + len) % 65536) (push_worked device framed a pc len done width operand).next
+    → IsWellMade device framed ((pc + len) % 65536) (push_worked device framed a pc len done width operand)
 unfolding push_worked
-push_worked_form laws {device} {a} pc len done width operand is form from_so =
+push_well_made laws device framed a pc len done width operand is form from_so =
     let after = (pc + len) % 65536 in
     let small : after < 65536 = omega arith in
     let counted = single after in
@@ -457,8 +452,10 @@ push_worked_form laws {device} {a} pc len done width operand is form from_so =
     let grown_so = grown_known a counted width operand in
     let at = lowered_known grown_so in
     let at_is = lowered_form laws (grown_form laws counted form counted_so width operand) in
+    let next_so = called_form laws done width after small x_is in
     record {
-      after_so = put_form laws is at_is (InMemory at.sp) at_is.sp.normal
+      form = put_form laws is at_is (InMemory at.sp) at_is.sp.normal
           (word_writable (pushed_form laws done width after small x_is));
-      next_so = called_form laws done width after small x_is;
+      next = next_so.normal;
+      even = next_so.even;
     }

@@ -13,10 +13,10 @@
 //! does, one with one operand, and PUSH and CALL. [`Here`] is where it stands, with what is known of the state. What they make
 //! of it is [`Worked`], exact by `double_worked`, `single_worked` and `push_worked`. They copy the state once.
 //!
-//! [`doubles_hold`], [`singles_hold`] and [`pushes_hold`] say what holds of the formulas, for instructions with two operands,
-//! with one operand, and PUSH and CALL, but for those that write SR. What they leave stands under what the formula says, at
-//! one of its next addresses, each access is shown, and a store that hits the program is at one of the addresses of the
-//! formula's store.
+//! [`doubles_hold`], [`singles_hold`] and [`pushes_hold`] say what instructions come to by the formulas (`ComesTo` of
+//! `specs/Doing.antt`), those with two operands, with one operand, and PUSH and CALL, but for those that write SR. What they
+//! leave stands under what the formula says, at one of its next addresses, each access is shown, and a store that hits the
+//! program is at one of the addresses of the formula's store. What the formulas say is in form (`IsWellMade`).
 //!
 //! [`words_in_memory`] is the law of words in memory and of SR as a word, for whoever pushes them and reads them back.
 #![tactic(auto)]

@@ -47,7 +47,7 @@ use Rattle.msp430_state.specs.Known.{Known, is_interrupt, known_joined}
 use Rattle.msp430_state.specs.Status.{common_bit}
 use Rattle.msp430_branch.specs.Cuts.{known_cut}
 use Rattle.msp430_alu.specs.Doing.{IsWellMade, here_at}
-use Rattle.msp430_alu.specs.Formats.{IsUnder, Worked, push_worked}
+use Rattle.msp430_alu.specs.Formats.{IsUnder, Worked}
 use Rattle.msp430_alu.specs.Memory.{IsDevice}
 use Rattle.msp430_entry.specs.declared.coming.Coming.{Coming}
 use Rattle.msp430_entry.specs.Entry.{ComesSo, entry_shows}
@@ -101,19 +101,13 @@ module _ (laws : Laws) (device : Device) (framed : Bool) (a : Known) (pc : ℕ) 
       laws.singles.made device framed a pc (length_of (instr.Single operation width operand)) operation width operand is
       form fits.0 (width_of operation width operand fits)
 
-  push_made : (operation : SingleOperation) (width : Width) (operand : Source)
-      → IsInstr (instr.Single operation width operand)
-      → let len = length_of (instr.Single operation width operand) in
-      IsWellMade device framed ((pc + len) % 65536) (push_worked device framed a pc len operation width operand)
-  push_made operation width operand fits =
-      laws.pushes.made device framed a pc (length_of (instr.Single operation width operand)) operation width operand is
-      form fits.0
-
   -- what every instruction makes
   pub worked_made : (instr_so : Instr) → IsInstr instr_so → IsMade instr_so
   worked_made (instr.Double operation width origin target) fits = double_made operation width origin target fits
-  worked_made (instr.Single Push width operand) fits = push_made Push width operand fits
-  worked_made (instr.Single Call width operand) fits = push_made Call width operand fits
+  worked_made (instr.Single Push width operand) fits =
+      laws.pushes.made device framed a pc (length_of (instr.Single Push width operand)) Push width operand is form fits.0
+  worked_made (instr.Single Call width operand) fits =
+      laws.pushes.made device framed a pc (length_of (instr.Single Call width operand)) Call width operand is form fits.0
   worked_made (instr.Single Rrc width operand) fits = plain_made Rrc width operand fits
   worked_made (instr.Single Swpb width operand) fits = plain_made Swpb width operand fits
   worked_made (instr.Single Rra width operand) fits = plain_made Rra width operand fits

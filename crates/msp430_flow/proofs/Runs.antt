@@ -27,7 +27,7 @@ use Rattle.msp430_decode.specs.Table.{IsInstr, length_of, target_of}
 use Rattle.msp430_chip.specs.Arithmetic.{modulus}
 use Rattle.msp430_chip.specs.declared.device.Device.{Device}
 use Rattle.msp430_chip.specs.declared.state.ChipState.{ChipState}
-use Rattle.msp430_chip.specs.Leading.{MayDouble, MayPush, MayReturn, MayRun, MaySingle}
+use Rattle.msp430_chip.specs.Leading.{MayDouble, MayReturn, MayRun, MaySingle}
 use Rattle.msp430_chip.specs.Outcome.{Outcome}
 use Rattle.msp430_chip.specs.State.{register_of}
 use Rattle.msp430_chip.specs.Step.{Left, behind, done, is_taken, jump}
@@ -36,7 +36,7 @@ use Rattle.msp430_state.specs.Forms.{IsFact, IsKnown}
 use Rattle.msp430_state.specs.Holding.{HoldsOfFact, HoldsOfParts, HoldsOfStatus, HasFlagsOf, GoesOn, StandsIn, suspended_of}
 use Rattle.msp430_state.specs.Known.{Known, known_joined, word_of}
 use Rattle.msp430_alu.specs.Doing.{ComesTo, Here, StandsHere, counter_of}
-use Rattle.msp430_alu.specs.Formats.{AreShown, IsHit, Worked, push_worked}
+use Rattle.msp430_alu.specs.Formats.{AreShown, IsHit, Worked}
 use Rattle.msp430_results.specs.Results.{HasWidth}
 use Rattle.msp430_branch.specs.Cuts.{known_cut}
 use Rattle.chip_flow.specs.Along.{HasWay as GoesAlong, way_jumped, way_on}
@@ -51,11 +51,11 @@ abbrev pub HasWay : Device → Option ChipState → List (Way Known) → (to : �
 HasWay device first all to registers ram = GoesAlong (λ b. HoldsOfParts device b first registers ram) all to
 
 -- what is made of what is known of a state by an instruction at its PC
-abbrev pub made_of : Here → Instr → Worked
-made_of here instr_so = worked here.device here.framed here.known (counter_of here) instr_so
+abbrev pub made_here : Here → Instr → Worked
+made_here here instr_so = worked here.device here.framed here.known (counter_of here) instr_so
 
 abbrev Comes : Here → Instr → Left → Outcome ChipState → Type 0
-Comes here instr_so left outcome = ComesTo here (made_of here instr_so) instr_so (stored_width instr_so) left outcome
+Comes here instr_so left outcome = ComesTo here (made_here here instr_so) instr_so (stored_width instr_so) left outcome
 
 -- a return from its frame's interrupt leaves the state at the exit
 pub record LeavesFrame (here : Here) (made_so : Worked) (frame : Frame) (left : Left) : Type 0 where
@@ -65,7 +65,7 @@ pub record LeavesFrame (here : Here) (made_so : Worked) (frame : Frame) (left : 
 abbrev pub GoesBack : Here → Instr → Left → Type 0
 GoesBack here instr_so left =
     (frame : Frame) → StandsIn frame here.first → leaves_frame here.device frame here.known instr_so ≡ true
-    → LeavesFrame here (made_of here instr_so) frame left
+    → LeavesFrame here (made_here here instr_so) frame left
 
 -- what the instruction at PC comes to
 pub record IsRun (here : Here) (instr_so : Instr) (outcome : Outcome ChipState) : Type 0 where
@@ -74,9 +74,9 @@ pub record IsRun (here : Here) (instr_so : Instr) (outcome : Outcome ChipState) 
   pub outcome_is : outcome ≡ done here.state instr_so accesses left
   pub way : let ways = all_ways here.device here.framed here.known (counter_of here) instr_so in
       HasWay here.device here.first ways (slice_index left.registers 0) left.registers left.ram
-  pub shown : AreShown (made_of here instr_so).accesses accesses
+  pub shown : AreShown (made_here here instr_so).accesses accesses
   pub hit : (at : ℕ) → left.hit ≡ Some at
-      → IsHit here.device (stored_width instr_so) (made_of here instr_so).store at
+      → IsHit here.device (stored_width instr_so) (made_here here instr_so).store at
   pub back : GoesBack here instr_so left
 
 parts_followed : (device : Device) (late : Tri) (fact : Option FlagFact) (b : Known) (first : Option ChipState) (registers ram : List ℕ)
@@ -87,12 +87,12 @@ parts_followed device late fact b first registers ram h told = assumption (h, to
 -- an instruction that goes to each address that PC may have
 by_next : Laws → (here : Here) (instr_so : Instr) (left : Left) (outcome : Outcome ChipState)
     → let after = known_behind here.device here.framed here.known (counter_of here) instr_so in
-    all_ways here.device here.framed here.known (counter_of here) instr_so ≡ ways_to (made_of here instr_so).next after
-    → Comes here instr_so left outcome → HoldsOfFact (fact_of instr_so (made_of here instr_so).after) left.registers
+    all_ways here.device here.framed here.known (counter_of here) instr_so ≡ ways_to (made_here here instr_so).next after
+    → Comes here instr_so left outcome → HoldsOfFact (fact_of instr_so (made_here here instr_so).after) left.registers
     → GoesBack here instr_so left → IsRun here instr_so outcome
 by_next laws here instr_so left outcome is comes fact back =
     let to = slice_index left.registers 0 in
-    let made_so = made_of here instr_so in
+    let made_so = made_here here instr_so in
     let behind_so = known_behind here.device here.framed here.known (counter_of here) instr_so in
     let way : Way Known = (to, behind_so) in
     record {
@@ -135,7 +135,7 @@ double_run : Laws → (here : Here) (operation : Operation) (width : Width) (ori
 double_run laws here operation width origin target outcome under fits may =
     let i = instr.Double operation width origin target in
     let comes = double_comes laws here operation width origin target outcome under fits may in
-    let fact = laws.facts.holds here.device (made_of here i).after here.state here.first (length_of i) operation width
+    let fact = laws.facts.holds here.device (made_here here i).after here.state here.first (length_of i) operation width
     origin target outcome under.holds.state may comes.left_so.parts in
     by_next laws here i may.left outcome refl comes fact (λ frame standing leaves. absurd (false≢true leaves))
 
@@ -175,18 +175,13 @@ single_run laws here operation width operand left outcome comes =
     by_next laws here (instr.Single operation width operand) left outcome refl comes comes.left_so.parts.fact
     (λ frame standing leaves. absurd (false≢true leaves))
 
-push_comes : Laws → (here : Here) (operation : SingleOperation) (width : Width) (operand : Source)
-    (outcome : Outcome ChipState)
-    → StandsHere here → IsInstr (instr.Single operation width operand)
-    → let len = length_of (instr.Single operation width operand) in
-    (may : MayPush here.device here.state len operation width operand outcome)
-    → let made_so = push_worked here.device here.framed here.known (counter_of here) len operation width operand in
-    ComesTo here made_so (instr.Single operation width operand) Word may.left outcome
-push_comes laws here operation width operand outcome under fits may =
-    laws.pushes.comes here (length_of (instr.Single operation width operand)) operation width operand outcome under
-    fits.0 may
-
 -- JUMPS
+
+-- what a fact says, by the number in its register and SR
+abbrev SaysOf : FlagFact → (value sr : ℕ) → Type 0
+SaysOf fact value sr =
+    HasFlagsOf fact.width ((value + fact.added) % modulus fact.width) fact.compared sr
+    × (fact.width ≡ Byte → value < 256)
 
 -- a fact speaks of SR and of one of R4 to R15
 jumped_fact : (fact : Option FlagFact) (registers : List ℕ) (next : ℕ) → IsFact fact → HoldsOfFact fact registers
@@ -196,8 +191,8 @@ jumped_fact (Some fact) registers next is h =
     let low : 3 < fact.register = is.0 in
     let value = get_or-set_other registers 0 fact.register next 0 (λ e. omega arith) in
     let sr = get_or-set_other registers 0 2 next 0 (λ e. omega arith) in
-    subst (λ v. HasFlagsOf fact.width ((v + fact.added) % modulus fact.width) fact.compared (slice_index (slice_set registers 0 next) 2) × (fact.width ≡ Byte → v < 256)) (sym value)
-    (subst (λ r. HasFlagsOf fact.width ((slice_index registers fact.register + fact.added) % modulus fact.width) fact.compared r × (fact.width ≡ Byte → slice_index registers fact.register < 256)) (sym sr) h)
+    subst (λ v. SaysOf fact v (slice_index (slice_set registers 0 next) 2)) (sym value)
+    (subst (SaysOf fact (slice_index registers fact.register)) (sym sr) h)
 
 -- registers with another PC
 jumped_parts : (device : Device) (a : Known) (s : ChipState) (first : Option ChipState) (next : ℕ) → IsFact a.fact
@@ -216,11 +211,23 @@ jumped_parts device a s first next is h =
       untouched = h.untouched;
     }
 
-jump_is : (s : ChipState) (condition : Condition) (offset : ℕ) (taken : Bool) → is_taken condition (register_of s 2) ≡ taken
-    → jump s condition offset ≡ done s (instr.Jump condition offset) [] (record { registers = slice_set s.registers 0 (cond taken (target_of (register_of s 0) offset) (behind s 2)); ram = s.ram; hit = None })
+-- what a jump leaves
+abbrev jump_left : ChipState → (offset : ℕ) → (taken : Bool) → Left
+jump_left s offset taken = record {
+  registers = slice_set s.registers 0 (cond taken (target_of (register_of s 0) offset) (behind s 2));
+  ram = s.ram;
+  hit = None;
+}
+
+jump_is : (s : ChipState) (condition : Condition) (offset : ℕ) (taken : Bool)
+    → is_taken condition (register_of s 2) ≡ taken
+    → jump s condition offset ≡ done s (instr.Jump condition offset) [] (jump_left s offset taken)
 unfolding jump
-jump_is s condition offset taken e =
-    ap (λ t. done s (instr.Jump condition offset) [] (record { registers = slice_set s.registers 0 (cond t (target_of (register_of s 0) offset) (behind s 2)); ram = s.ram; hit = None })) e
+jump_is s condition offset taken e = ap (λ t. done s (instr.Jump condition offset) [] (jump_left s offset t)) e
+
+abbrev jump_ways : (pc offset : ℕ) → Condition → Known → List (Way Known)
+jump_ways pc offset condition a =
+    ways_in known_joined (ways_onward pc (instr.Jump condition offset) (single ((pc + 2) % 65536)) a)
 
 module _ (laws : Laws) (device : Device) (framed : Bool) (first : Option ChipState) (registers ram : List ℕ) where
   abbrev Is : Known → Type 0
@@ -231,10 +238,14 @@ module _ (laws : Laws) (device : Device) (framed : Bool) (first : Option ChipSta
 
   -- what is known on one of two ways that are joined
   joined_first : (a b : Known) → Is a → Is b → Holds a → Holds (known_joined a b)
-  joined_first a b f g h = laws.states.parts device device.ram.lo device.ram.hi framed a (known_joined a b) first registers ram f (laws.states.join_held device.ram.lo device.ram.hi framed a b f g) h
+  joined_first a b f g h =
+      let within = laws.states.join_held device.ram.lo device.ram.hi framed a b f g in
+      laws.states.parts device device.ram.lo device.ram.hi framed a (known_joined a b) first registers ram f within h
 
   joined_second : (a b : Known) → Is a → Is b → Holds b → Holds (known_joined a b)
-  joined_second a b f g h = laws.states.parts device device.ram.lo device.ram.hi framed b (known_joined a b) first registers ram g (laws.states.join_new device.ram.lo device.ram.hi framed a b f g) h
+  joined_second a b f g h =
+      let within = laws.states.join_new device.ram.lo device.ram.hi framed a b f g in
+      laws.states.parts device device.ram.lo device.ram.hi framed b (known_joined a b) first registers ram g within h
 
   cut_known : (condition : Condition) (taken : Bool) (a : Known) (found : Option Known) → Is a
       → known_cut condition taken a ≡ found → IfSome found Is
@@ -242,16 +253,24 @@ module _ (laws : Laws) (device : Device) (framed : Bool) (first : Option ChipSta
   cut_known condition taken a (Some b) f e = laws.cuts.form device.ram.lo device.ram.hi framed a b condition taken f e
 
   -- the way that a jump takes
-  way_of_jump : (pc offset : ℕ) (condition : Condition) (taken : Bool) (a b : Known) → Is a → known_cut condition taken a ≡ Some b → Holds b
-      → HasWay device first (ways_in known_joined (ways_onward pc (instr.Jump condition offset) (single ((pc + 2) % 65536)) a)) (cond taken (target_of pc offset) ((pc + 2) % 65536)) registers ram
+  way_of_jump : (pc offset : ℕ) (condition : Condition) (taken : Bool) (a b : Known)
+      → Is a → known_cut condition taken a ≡ Some b → Holds b
+      → let to = cond taken (target_of pc offset) ((pc + 2) % 65536) in
+      HasWay device first (jump_ways pc offset condition a) to registers ram
   way_of_jump pc offset condition true a b f e h =
       let on = known_cut condition false a in
       let jumped = known_cut condition true a in
-      way_jumped laws.ways known_joined Is Holds ((pc + 2) % 65536) (target_of pc offset) on jumped (cut_known condition false a on f refl) (cut_known condition true a jumped f refl) joined_second b e h
+      let on_is = cut_known condition false a on f refl in
+      let jumped_is = cut_known condition true a jumped f refl in
+      way_jumped laws.ways known_joined Is Holds ((pc + 2) % 65536) (target_of pc offset) on jumped on_is jumped_is
+      joined_second b e h
   way_of_jump pc offset condition false a b f e h =
       let on = known_cut condition false a in
       let jumped = known_cut condition true a in
-      way_on laws.ways known_joined Is Holds ((pc + 2) % 65536) (target_of pc offset) on jumped (cut_known condition false a on f refl) (cut_known condition true a jumped f refl) joined_first b e h
+      let on_is = cut_known condition false a on f refl in
+      let jumped_is = cut_known condition true a jumped f refl in
+      way_on laws.ways known_joined Is Holds ((pc + 2) % 65536) (target_of pc offset) on jumped on_is jumped_is
+      joined_first b e h
 
 pub late_form : (lo hi : ℕ) (framed : Bool) (late : Tri) (fact : Option FlagFact) (b : Known) → IsFact fact
     → IsKnown lo hi framed b → IsKnown lo hi framed (followed late fact b)
@@ -276,12 +295,14 @@ jump_run laws here condition offset outcome under is =
     (parts_followed device (gie_of a) a.fact a first s.registers s.ram under.holds.parts under.holds.parts.fact) in
     let fact : IsFact b.fact = (laws.cuts.form device.ram.lo device.ram.hi framed ahead b condition taken form cut_so).fact in
     let long : 0 < length s.registers = omega (arith, under.holds.state.registers) in
-    let way = way_of_jump laws device framed first registers s.ram pc offset condition taken ahead b form cut_so (jumped_parts device b s first next fact parts) in
+    let way = way_of_jump laws device framed first registers s.ram pc offset condition taken ahead b form cut_so
+    (jumped_parts device b s first next fact parts) in
     record {
-      left = record { registers = registers; ram = s.ram; hit = None };
+      left = jump_left s offset taken;
       accesses = [];
       outcome_is = is ∙ jump_is s condition offset taken refl;
-      way = subst (λ to. HasWay device first (ways_in known_joined (ways_onward pc (instr.Jump condition offset) (single ((pc + 2) % 65536)) ahead)) to registers s.ram) (sym (get_or-set_same s.registers 0 next 0 long)) way;
+      way = subst (λ to. HasWay device first (jump_ways pc offset condition ahead) to registers s.ram)
+          (sym (get_or-set_same s.registers 0 next 0 long)) way;
       shown = λ single_so there. absurd (in_none single_so there);
       hit = λ at none. absurd (cc);
       back = λ frame standing leaves. absurd (false≢true leaves);
@@ -297,7 +318,7 @@ return_run laws here outcome under may =
     by_next laws here instr.ReturnFromInterrupt left outcome refl comes comes.left_so.parts.fact
     (λ frame standing leaves. record {
       goes = λ t same. laws.returns.back here t frame outcome under standing leaves may same;
-      parts = parts_followed here.device (gie_of here.known) None (made_of here instr.ReturnFromInterrupt).after here.first
+      parts = parts_followed here.device (gie_of here.known) None (made_here here instr.ReturnFromInterrupt).after here.first
           left.registers left.ram comes.left_so.parts tt;
     })
 
@@ -309,17 +330,25 @@ pub instr_run : Laws → (here : Here) (instr_so : Instr) (outcome : Outcome Chi
 instr_run laws here (instr.Double operation width origin target) outcome under fits may =
     double_run laws here operation width origin target outcome under fits may
 instr_run laws here (instr.Single Push width operand) outcome under fits may =
-    single_run laws here Push width operand may.left outcome (push_comes laws here Push width operand outcome under fits may)
+    let len = length_of (instr.Single Push width operand) in
+    single_run laws here Push width operand may.left outcome
+    (laws.pushes.comes here len Push width operand outcome under fits.0 may)
 instr_run laws here (instr.Single Call width operand) outcome under fits may =
-    single_run laws here Call width operand may.left outcome (push_comes laws here Call width operand outcome under fits may)
+    let len = length_of (instr.Single Call width operand) in
+    single_run laws here Call width operand may.left outcome
+    (laws.pushes.comes here len Call width operand outcome under fits.0 may)
 instr_run laws here (instr.Single Rrc width operand) outcome under fits may =
-    single_run laws here Rrc width operand may.left outcome (plain_comes laws here Rrc width operand outcome under fits may)
+    single_run laws here Rrc width operand may.left outcome
+    (plain_comes laws here Rrc width operand outcome under fits may)
 instr_run laws here (instr.Single Swpb width operand) outcome under fits may =
-    single_run laws here Swpb width operand may.left outcome (plain_comes laws here Swpb width operand outcome under fits may)
+    single_run laws here Swpb width operand may.left outcome
+    (plain_comes laws here Swpb width operand outcome under fits may)
 instr_run laws here (instr.Single Rra width operand) outcome under fits may =
-    single_run laws here Rra width operand may.left outcome (plain_comes laws here Rra width operand outcome under fits may)
+    single_run laws here Rra width operand may.left outcome
+    (plain_comes laws here Rra width operand outcome under fits may)
 instr_run laws here (instr.Single Sxt width operand) outcome under fits may =
-    single_run laws here Sxt width operand may.left outcome (plain_comes laws here Sxt width operand outcome under fits may)
+    single_run laws here Sxt width operand may.left outcome
+    (plain_comes laws here Sxt width operand outcome under fits may)
 instr_run laws here (instr.Jump condition offset) outcome under fits may =
     jump_run laws here condition offset outcome under may
 instr_run laws here instr.ReturnFromInterrupt outcome under fits may = return_run laws here outcome under may

@@ -1,4 +1,3 @@
 pub mod StatusWord
 pub mod ReturnLaw
 pub mod BackLaw
-pub mod Doing

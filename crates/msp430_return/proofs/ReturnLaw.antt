@@ -9,7 +9,6 @@ use Rattle.chip_numbers.specs.declared.space.Space.TheVariants.{Mem}
 use Rattle.entry_value.specs.Words.{HoldsOfWord}
 use Rattle.value_set.specs.declared.form.Form.{Form}
 use Rattle.value_set.specs.Form.{Has, IsNormal}
-use Rattle.value_set.specs.Remainders.{HasRemainder}
 use Rattle.value_set.specs.Summing.{add, single}
 use Rattle.msp430_decode.specs.declared.instr.Width.TheVariants.{Word as Words}
 use Rattle.msp430_chip.specs.declared.device.Device.{Device}
@@ -22,6 +21,7 @@ use Rattle.msp430_results.specs.FlagSets.{IsResult}
 use Rattle.msp430_state.specs.Forms.{IsKnown}
 use Rattle.msp430_state.specs.Holding.{suspended_of, HoldsOfStatus}
 use Rattle.msp430_state.specs.Known.{Known, word_of}
+use Rattle.msp430_alu.specs.Doing.{IsWellMade}
 use Rattle.msp430_alu.specs.Formats.{AreShown, IsLeft, IsUnder}
 use Rattle.msp430_alu.specs.Memory.{IsDevice, read_known}
 use Rattle.msp430_alu.specs.Registers.{even_parts}
@@ -104,11 +104,11 @@ other_left s status target r high =
 
 -- THE LAW
 
-pub return_law : (laws : MemoryLaws) (device : Device) (framed : Bool) (a : Known) (s : ChipState) (first : Option ChipState) (outcome : Outcome ChipState)
+pub return_law : (laws : MemoryLaws) {device : Device} {framed : Bool} {a : Known} {s : ChipState} {first : Option ChipState} {outcome : Outcome ChipState}
     → IsUnder device framed a s first → (may : MayReturn device s outcome)
     → IsLeft device (return_worked device a (register_of s 0)).after first (return_worked device a (register_of s 0)).next (left_of_return s may.status may.target)
 unfolding return_worked
-return_law laws device framed a s first outcome under may =
+return_law laws {device} {framed} {a} {s} {first} {outcome} under may =
     let suspended = option_map suspended_of first in
     let long = under.holds.state.registers in
     let status_word = read_known device a Words (status_place device a.sp) in
@@ -134,39 +134,30 @@ return_law laws device framed a s first outcome under may =
     }
 
 -- an access of the list is the first one or the second
-pub return_shown : (laws : MemoryLaws) (device : Device) (framed : Bool) (a : Known) (s : ChipState) (first : Option ChipState)
+pub return_shown : (laws : MemoryLaws) {device : Device} {framed : Bool} {a : Known} {s : ChipState} {first : Option ChipState}
     → IsUnder device framed a s first
     → AreShown (return_worked device a (register_of s 0)).accesses (return_accesses device s)
 unfolding return_worked
-return_shown laws device framed a s first under single_so (zero, lt, is) =
+return_shown laws {device} {framed} {a} {s} {first} under single_so (zero, lt, is) =
     let pc = register_of s 0 in
     subst (AreShowing (return_items device pc a.sp)) is (Access pc Mem false 2 (W (status_place device a.sp)), (0, omega arith, refl), (refl, refl, refl, refl, sp_is laws under))
-return_shown laws device framed a s first under single_so (suc zero, lt, is) =
+return_shown laws {device} {framed} {a} {s} {first} under single_so (suc zero, lt, is) =
     let pc = register_of s 0 in
     subst (AreShowing (return_items device pc a.sp)) is
     (Access pc Mem false 2 (W (counter_place device a.sp)), (1, omega arith, refl), (refl, refl, refl, refl, above_is laws under))
-return_shown laws device framed a s first under single_so (suc (suc k), lt, is) = absurd (omega (arith, lt))
+return_shown laws {device} {framed} {a} {s} {first} under single_so (suc (suc k), lt, is) = absurd (omega (arith, lt))
 
-pub return_form : (laws : MemoryLaws) (device : Device) (framed : Bool) (a : Known) (pc : ℕ) → IsDevice device
-    → IsKnown device.ram.lo device.ram.hi framed a
-    → IsKnown device.ram.lo device.ram.hi framed (return_worked device a pc).after
+pub return_made : (laws : MemoryLaws) (device : Device) (framed : Bool) (a : Known) (pc behind : ℕ) → IsDevice device
+    → IsKnown device.ram.lo device.ram.hi framed a → IsWellMade device framed behind (return_worked device a pc)
 unfolding return_worked
-return_form laws device framed a pc is form =
+return_made laws device framed a pc behind is form =
     let word = read_known device a Words (status_place device a.sp) in
     let sp = sum_even laws.known a.sp 4 (omega arith) refl form.sp in
     let status = status_relation_form framed word.entry (laws.words.read_form device framed a (status_place device a.sp) is form).entry in
-    assumption (sp, status_length word, status, form)
-
-pub return_next : (laws : MemoryLaws) (device : Device) (framed : Bool) (a : Known) (pc : ℕ) → IsDevice device
-    → IsKnown device.ram.lo device.ram.hi framed a
-    → IsNormal 65536 (return_worked device a pc).next
-unfolding return_worked
-return_next laws device framed a pc is form =
-    (even_parts_form laws.known (read_known device a Words (counter_place device a.sp)).set (laws.words.read_form device framed a (counter_place device a.sp) is form).normal).normal
-
-pub return_even : (laws : MemoryLaws) (device : Device) (framed : Bool) (a : Known) (pc : ℕ) → IsDevice device
-    → IsKnown device.ram.lo device.ram.hi framed a
-    → HasRemainder 65536 2 0 (return_worked device a pc).next
-unfolding return_worked
-return_even laws device framed a pc is form =
-    (even_parts_form laws.known (read_known device a Words (counter_place device a.sp)).set (laws.words.read_form device framed a (counter_place device a.sp) is form).normal).even
+    let counter = read_known device a Words (counter_place device a.sp) in
+    let next = even_parts_form laws.known counter.set (laws.words.read_form device framed a (counter_place device a.sp) is form).normal in
+    record {
+      form = assumption (sp, status_length word, status, form);
+      next = next.normal;
+      even = λ _. next.even;
+    }

@@ -4,4 +4,3 @@ pub mod Moves
 pub mod Parts
 pub mod StatusLaw
 pub mod SingleLaw
-pub mod Doing

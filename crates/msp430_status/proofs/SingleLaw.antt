@@ -3,7 +3,6 @@ use Rattle.std.proofs.Common.{◌≡◌, ℕ, zero, suc, ◌+◌, ◌*◌, ◌%�
 use Rattle.std.proofs.lemmas.List.{length-set}
 use Rattle.std.proofs.lemmas.Option.{same_Some}
 use Rattle.value_set.specs.Form.{Has, IsNormal}
-use Rattle.value_set.specs.Remainders.{HasRemainder}
 use Rattle.value_set.specs.Summing.{single}
 use Rattle.value_bits.specs.Bits.{Agrees}
 use Rattle.chip_numbers.specs.Numbers.{exchanged}
@@ -28,6 +27,7 @@ use Rattle.msp430_state.specs.FormFacts.{no_status_relation}
 use Rattle.msp430_state.specs.Forms.{IsKnown}
 use Rattle.value_set.specs.Laws.{SetLaws}
 use Rattle.msp430_state.specs.Known.{Known}
+use Rattle.msp430_alu.specs.Doing.{IsWellMade}
 use Rattle.msp430_alu.specs.Formats.{AreShown, IsLeft, IsUnder}
 use Rattle.msp430_status.specs.Status.{free_bits, single_bits, single_status_worked}
 use Rattle.msp430_status.proofs.BitLemmas.{free_agree, length_free}
@@ -81,12 +81,12 @@ single_written {device} {first} {ram} {registers} operation.Call width a sr bits
 single_written done width a sr bits x fits agrees small few is (OfResult other made_so may left_is) = absurd (cc)
 
 pub single_status_law : ((m v : ℕ) → v < m → IsNormal m (single v) × Has m (single v) v)
-    → (device : Device) (framed : Bool) (a : Known) (s : ChipState) (first : Option ChipState) (len : ℕ) (done : SingleOperation) (width : Width) (outcome : Outcome ChipState)
+    → {device : Device} {framed : Bool} {a : Known} {s : ChipState} {first : Option ChipState} {len : ℕ} {done : SingleOperation} {width : Width} {outcome : Outcome ChipState}
     → IsUnder device framed a s first → HasWidth done width → (may : MaySingle device s len done width (source.Register Sr) outcome)
     → IsLeft device (single_status_worked device framed a (register_of s 0) len done width).after first
     (single_status_worked device framed a (register_of s 0) len done width).next may.left
 unfolding single_status_worked
-single_status_law singles device framed a s first len done width outcome under fits may =
+single_status_law singles {device} {framed} {a} {s} {first} {len} {done} {width} {outcome} under fits may =
     let next = behind s len in
     let registers = set s.registers 0 next in
     let long : length registers ≡ 16 = length-set s.registers 0 next ∙ under.holds.state.registers in
@@ -104,32 +104,22 @@ unfolding single_status_worked
 single_status_shown device framed a s len done width single_so (zero, lt, is) = absurd (omega (arith, lt))
 single_status_shown device framed a s len done width single_so (suc k, lt, is) = absurd (omega (arith, lt))
 
-leaves_no_hit : {device : Device} {ram registers : List ℕ} {done : SingleOperation} {width : Width} {x carry : ℕ} {left : Left}
+pub leaves_no_hit : {device : Device} {ram registers : List ℕ} {done : SingleOperation} {width : Width} {x carry : ℕ} {left : Left}
     → MayLeaveSingle device ram registers done width (place.InRegister Sr) x carry left → left.hit ≡ None
 leaves_no_hit {device} (FreeStatus free leaves) = ap (λ (l : Left). l.hit) leaves.left_is
 leaves_no_hit {device} (OfResult other made_so may is) = ap (λ (l : Left). l.hit) is
-
-pub single_status_hit : (device : Device) (s : ChipState) (len : ℕ) (done : SingleOperation) (width : Width) (outcome : Outcome ChipState)
-    → (may : MaySingle device s len done width (source.Register Sr) outcome) → may.left.hit ≡ None
-single_status_hit device s len done width outcome may = leaves_no_hit may.leaves
 
 length_single : (done : SingleOperation) (a : Known) → length (single_bits done a.status.bits) ≡ 9
 length_single operation.Swpb a = length_swapped a.status.bits
 length_single other a = length_free
 
-pub single_status_form : (device : Device) (framed : Bool) (a : Known) (pc len : ℕ) (done : SingleOperation) (width : Width)
+pub single_status_made : (sets : SetLaws) (device : Device) (framed : Bool) (a : Known) (pc len : ℕ)
+    (done : SingleOperation) (width : Width)
     → IsKnown device.ram.lo device.ram.hi framed a
-    → IsKnown device.ram.lo device.ram.hi framed (single_status_worked device framed a pc len done width).after
+    → IsWellMade device framed ((pc + len) % 65536) (single_status_worked device framed a pc len done width)
 unfolding single_status_worked
-single_status_form device framed a pc len done width form = assumption (length_single done a, no_status_relation framed, form)
-
-pub single_status_next : ((m v : ℕ) → v < m → IsNormal m (single v) × Has m (single v) v)
-    → (device : Device) (framed : Bool) (a : Known) (pc len : ℕ) (done : SingleOperation) (width : Width)
-    → IsNormal 65536 (single_status_worked device framed a pc len done width).next
-unfolding single_status_worked
-single_status_next singles device framed a pc len done width = (singles 65536 ((pc + len) % 65536) (omega arith)).0
-
-pub single_status_even : (laws : SetLaws) (device : Device) (framed : Bool) (a : Known) (pc len : ℕ) (done : SingleOperation) (width : Width)
-    → (pc + len) % 65536 % 2 ≡ 0 → HasRemainder 65536 2 0 (single_status_worked device framed a pc len done width).next
-unfolding single_status_worked
-single_status_even laws device framed a pc len done width = laws.single_rest 65536 2 0 ((pc + len) % 65536)
+single_status_made sets device framed a pc len done width form = record {
+  form = assumption (length_single done a, no_status_relation framed, form);
+  next = (sets.single 65536 ((pc + len) % 65536) (omega arith)).0;
+  even = sets.single_rest 65536 2 0 ((pc + len) % 65536);
+}

@@ -10,8 +10,6 @@ use Rattle.entry_value.specs.declared.word.Entry.{Entry}
 use Rattle.entry_value.specs.declared.word.Word.{Word}
 use Rattle.entry_value.specs.Words.{HoldsOfWord, IsFromEntry, Suspended}
 use Rattle.irq_frames.specs.KnownLaws.{KnownLaws}
-use Rattle.value_set.specs.Form.{IsNormal}
-use Rattle.value_set.specs.Remainders.{HasRemainder}
 use Rattle.value_set.specs.Summing.{single}
 use Rattle.value_bits.specs.Bits.{Agrees, known_bit, known_bits}
 use Rattle.msp430_decode.specs.declared.instr.Destination.TheVariants as destination
@@ -45,7 +43,7 @@ use Rattle.msp430_state.specs.Holding.{HoldsOfParts, suspended_of}
 use Rattle.msp430_state.specs.Known.{Known}
 use Rattle.msp430_alu.specs.declared.reach.Reach.TheVariants.{InRegister}
 use Rattle.msp430_alu.specs.Formats.{AreShown, IsLeft, IsUnder, access_if, access_of, constant_of, counter_set, double_worked, relation_of}
-use Rattle.msp430_alu.specs.Doing.{here_at}
+use Rattle.msp430_alu.specs.Doing.{IsWellMade, here_at}
 use Rattle.msp430_alu.specs.Memory.{IsDevice}
 use Rattle.msp430_alu.specs.Operands.{grown_known, operand_word, source_reach}
 use Rattle.msp430_alu.specs.Registers.{status_set}
@@ -127,15 +125,11 @@ put_hit : (writes : Bool) (device : Device) (registers ram : List ℕ) (width : 
 put_hit true device registers ram width v = refl
 put_hit false device registers ram width v = refl
 
-leaves_hit : {device : Device} {ram registers : List ℕ} {done : Operation} {width : Width} {x y carry : ℕ} {left : Left}
+pub leaves_hit : {device : Device} {ram registers : List ℕ} {done : Operation} {width : Width} {x y carry : ℕ} {left : Left}
     → MayLeaveDouble device ram registers done width (place.InRegister Sr) x y carry left → left.hit ≡ None
 leaves_hit {device} {ram} (FreeStatus free freed) = ap (λ (l : Left). l.hit) freed.left_is
 leaves_hit {device} {ram} {registers} {done} {width} (OfResult other made_so may is) =
     ap (λ (l : Left). l.hit) is ∙ put_hit (writes_result done) device registers ram width made_so.0
-
-pub status_hit : (device : Device) (s : ChipState) (len : ℕ) (done : Operation) (width : Width) (origin : Source) (outcome : Outcome ChipState)
-    → (may : MayDouble device s len done width origin (destination.Register Sr) outcome) → may.left.hit ≡ None
-status_hit device s len done width origin outcome may = leaves_hit may.leaves
 
 -- THE BITS
 
@@ -279,13 +273,13 @@ status_is_written laws {device} {a} {s} {first} {len} {done} {width} {origin} un
       })
     ]
 
-pub status_law : (laws : StatusLaws) (device : Device) (framed : Bool) (a : Known) (s : ChipState) (first : Option ChipState) (len : ℕ) (done : Operation) (width : Width)
-    (origin : Source) (outcome : Outcome ChipState)
+pub status_law : (laws : StatusLaws) {device : Device} {framed : Bool} {a : Known} {s : ChipState} {first : Option ChipState} {len : ℕ} {done : Operation} {width : Width}
+    {origin : Source} {outcome : Outcome ChipState}
     → IsUnder device framed a s first → IsSource origin → (may : MayDouble device s len done width origin (destination.Register Sr) outcome)
     → IsLeft device (status_worked device framed a (register_of s 0) len done width origin).after first
     (status_worked device framed a (register_of s 0) len done width origin).next may.left
 unfolding status_worked
-status_law laws device framed a s first len done width origin outcome under from_so may =
+status_law laws {device} {framed} {a} {s} {first} {len} {done} {width} {origin} {outcome} under from_so may =
     let pc = register_of s 0 in
     let next = (pc + len) % 65536 in
     let counted = single next in
@@ -303,13 +297,13 @@ no_access : (device : Device) (there : Bool) (pc : ℕ) (write : Bool) (width : 
 no_access device true pc write width register = refl
 no_access device false pc write width register = refl
 
-pub status_shown : (laws : StatusLaws) (device : Device) (framed : Bool) (a : Known) (s : ChipState) (first : Option ChipState) (len : ℕ) (done : Operation) (width : Width)
-    (origin : Source) (outcome : Outcome ChipState)
+pub status_shown : (laws : StatusLaws) {device : Device} {framed : Bool} {a : Known} {s : ChipState} {first : Option ChipState} {len : ℕ} {done : Operation} {width : Width}
+    {origin : Source} {outcome : Outcome ChipState}
     → IsUnder device framed a s first → IsSource origin → (may : MayDouble device s len done width origin (destination.Register Sr) outcome)
     → AreShown (status_worked device framed a (register_of s 0) len done width origin).accesses
     (double_accesses device (register_of s 0) done width (origin_of s may.counted origin) (place_of s len may.counted width origin (destination.Register Sr)))
 unfolding double_worked status_worked
-status_shown laws device framed a s first len done width origin outcome under from_so may =
+status_shown laws {device} {framed} {a} {s} {first} {len} {done} {width} {origin} {outcome} under from_so may =
     let pc = register_of s 0 in
     let counted = counter_set pc len origin (destination.Register Sr) in
     let reads = access_of device pc false width (source_reach pc a counted origin) in
@@ -344,25 +338,19 @@ behind_form framed a done width origin word is h k =
     cond_both (sets_flags done) (bits_alone free_bits) (moved_status a done width origin word) (λ (known : StatusBits). IsStatusRelation framed known.entry)
     (λ e. no_status_relation framed) (λ e. moved_form framed done width origin word.entry a.status.entry is h k)
 
-pub status_form : (laws : StatusLaws) (device : Device) (framed : Bool) (a : Known) (pc len : ℕ) (done : Operation) (width : Width) (origin : Source)
-    → IsDevice device
-    → IsKnown device.ram.lo device.ram.hi framed a → IsSource origin
-    → IsKnown device.ram.lo device.ram.hi framed (status_worked device framed a pc len done width origin).after
+pub status_made : (laws : StatusLaws) (device : Device) (framed : Bool) (a : Known) (pc len : ℕ) (done : Operation)
+    (width : Width) (origin : Source)
+    → IsDevice device → IsKnown device.ram.lo device.ram.hi framed a → IsSource origin
+    → IsWellMade device framed ((pc + len) % 65536) (status_worked device framed a pc len done width origin)
 unfolding status_worked
-status_form laws device framed a pc len done width origin is form from_so =
-    let counted = single ((pc + len) % 65536) in
-    let word = operand_word device a counted width (source_reach pc a counted origin) in
+status_made laws device framed a pc len done width origin is form from_so =
+    let next = (pc + len) % 65536 in
+    let word = operand_word device a (single next) width (source_reach pc a (single next) origin) in
     let grown_is = grown_form laws pc len width origin is form from_so in
     let bits = behind_length_form a done width origin word form.bits in
     let entry = behind_form framed a done width origin word from_so (source_relation laws pc len width origin is form from_so) form.status in
-    assumption (bits, entry, grown_is)
-
-pub status_next : (laws : StatusLaws) (device : Device) (framed : Bool) (a : Known) (pc len : ℕ) (done : Operation) (width : Width) (origin : Source)
-    → IsNormal 65536 (status_worked device framed a pc len done width origin).next
-unfolding status_worked
-status_next laws device framed a pc len done width origin = (laws.known.sets.single 65536 ((pc + len) % 65536) (omega arith)).0
-
-pub status_even : (laws : StatusLaws) (device : Device) (framed : Bool) (a : Known) (pc len : ℕ) (done : Operation) (width : Width) (origin : Source)
-    → (pc + len) % 65536 % 2 ≡ 0 → HasRemainder 65536 2 0 (status_worked device framed a pc len done width origin).next
-unfolding status_worked
-status_even laws device framed a pc len done width origin = laws.known.sets.single_rest 65536 2 0 ((pc + len) % 65536)
+    record {
+      form = assumption (bits, entry, grown_is);
+      next = (laws.known.sets.single 65536 next (omega arith)).0;
+      even = laws.known.sets.single_rest 65536 2 0 next;
+    }
