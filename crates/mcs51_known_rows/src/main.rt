@@ -27,10 +27,14 @@
 //! - `resume` has the address where an interrupt came where SP was 7, what was known there, and behind `+` what the exit of
 //!   its handler knows; behind `>` what is known where the suspended state goes on that wasn't known in it.
 //!
+//! - `front` has sentences of a text of promises, with `;` between them, and behind `|` an instruction and what is known; behind
+//!   `>` what is known in front of the instruction that isn't known anyway.
+//!
 //! A line of `#` says what the next ones show.
 #![tactic(auto)]
 
 mod facts;
+mod fronts;
 mod instructions;
 mod interrupts;
 mod naming;
@@ -39,6 +43,7 @@ mod sets;
 mod showing;
 mod states;
 
+use crate::fronts::is_front;
 use crate::instructions::runs;
 use crate::interrupts::{come, enters};
 use crate::pairs::{grows, resumes};
@@ -57,6 +62,7 @@ fn holds(alloc: Global, line: &str) -> Result<bool, Memory> {
         "top" => is_top(alloc, words, after),
         "comings" => come(alloc, words, after),
         "enter" => enters(alloc, words, after),
+        "front" => is_front(alloc, words, after),
         "resume" => resumes(alloc, words, after),
         _ => runs(alloc, line),
     }
