@@ -9,8 +9,9 @@
 //! - [`read_lines`] gives exactly the assertions of a text, or its first line that is of no form.
 //! - [`decide`] gives exactly the assertions that a closed book breaks. Each set is decided by one or two cuts, so no number
 //!   of it is listed.
-//! - Where it gives none, nothing that the chip meets on any run breaks any of the assertions, and no run leaves the model
-//!   (`Holds` of `specs/Holding.antt`). [`unbroken_lists_hold`] is that law for any works that cover the runs.
+//! - Nothing that the chip meets on any run breaks an assertion that it doesn't give, and no run leaves the model (`HoldsBut`
+//!   of `specs/Holding.antt`). [`unnamed_assertions_hold`] is that law for any works that cover the runs.
+//! - So where it gives none, all of them hold (`Holds`): [`unbroken_lists_hold`].
 #![tactic(auto)]
 
 mod assertion;
@@ -24,5 +25,5 @@ mod reaching;
 pub use assertion::Assertion;
 pub use breaking::breaks;
 pub use deciding::{Broken, decide};
-pub use laws::unbroken_lists_hold;
+pub use laws::{unbroken_lists_hold, unnamed_assertions_hold};
 pub use lines::{AssertError, MOST_BYTES, read_lines};
