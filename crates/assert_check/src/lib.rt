@@ -12,11 +12,14 @@
 //! - Nothing that the chip meets on any run breaks an assertion that it doesn't give, and no run leaves the model (`HoldsBut`
 //!   of `specs/Holding.antt`). [`unnamed_assertions_hold`] is that law for any works that cover the runs.
 //! - So where it gives none, all of them hold (`Holds`): [`unbroken_lists_hold`].
+//! - [`idle_lines`] gives exactly the assertions on accesses to a space to which a closed book shows none, which nothing could
+//!   break (`specs/Idle.antt`).
 #![tactic(auto)]
 
 mod assertion;
 mod breaking;
 mod deciding;
+mod idle;
 mod laws;
 mod lines;
 mod parsing;
@@ -25,5 +28,6 @@ mod reaching;
 pub use assertion::Assertion;
 pub use breaking::breaks;
 pub use deciding::{Broken, decide};
+pub use idle::idle_lines;
 pub use laws::{unbroken_lists_hold, unnamed_assertions_hold};
 pub use lines::{AssertError, MOST_BYTES, read_lines};
