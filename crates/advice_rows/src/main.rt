@@ -12,6 +12,7 @@
 //! - `vain WORDS` and `overwritten WORDS`: what is seen of the text, as the report that these words ask for.
 //! - `second PIECES` and `address PIECES LINE`: how many lines behind the end record aren't blank, and the address of a record,
 //!   behind so many pieces of sixteen bytes of the text. `unasked WORDS`: whether the words ask for assertions that it lacks.
+//!   `mirrored WORDS`: the first of its assertions that is on the mirror alone, by its line, and where the mirrored RAM begins.
 //! - `asks CHIP CODE SCRIPT`: what a run asks of code at F000h of the MSP430, or at 0000h of the MCS-51, along a script.
 #![tactic(auto)]
 
@@ -23,7 +24,7 @@ mod words;
 
 use crate::questions::asks;
 use crate::reports::{overwritten, vain};
-use crate::sources::{address, second, unasked};
+use crate::sources::{address, mirrored, second, unasked};
 use crate::texts::{binary, input, memory, progress};
 use crate::words::{number, range, slip, usage};
 use row_parts::{add_line, tell, text_of};
@@ -45,6 +46,7 @@ fn said(alloc: Global, word: &str, asked: &str, text: &str) -> Result<String, Al
         "overwritten" => overwritten(alloc, asked, text),
         "second" => second(alloc, asked, text),
         "unasked" => unasked(alloc, asked, text),
+        "mirrored" => mirrored(alloc, asked, text),
         "address" => address(alloc, asked, text),
         "asks" => asks(alloc, asked),
         _ => String::from_str(alloc, "no such row"),

@@ -2,7 +2,7 @@
 
 use row_parts::words_of;
 use std::alloc::{AllocError, Global};
-use vsa_advice::{NotedSource, lacks_assertions};
+use vsa_advice::{NotedSource, kept_text, lacks_assertions, mirrored_in};
 use vsa_io::{CleanSource, Source};
 
 /// How many bytes a read gives.
@@ -47,6 +47,19 @@ pub fn address(alloc: Global, asked: &str, text: &str) -> Result<String, AllocEr
     let source = read_of(alloc, text, number_of(words.next()))?;
     match source.address_of(number_of(words.next())) {
         Some(address) => format!(in alloc; "{address:04X}"),
+        None => String::from_str(alloc, "none"),
+    }
+}
+
+/// The line of the first assertion of a text on the mirror alone, and where the mirrored RAM begins, where these words keep the
+/// text.
+pub fn mirrored(alloc: Global, asked: &str, text: &str) -> Result<String, AllocError> {
+    let words = words_of(alloc, asked)?;
+    if kept_text(alloc, words.as_slice()).is_none() {
+        return String::from_str(alloc, "not kept");
+    }
+    match mirrored_in(alloc, words.as_slice(), text.as_bytes()) {
+        Some(found) => format!(in alloc; "{} {:04X}", found.line, found.ram),
         None => String::from_str(alloc, "none"),
     }
 }

@@ -1,3 +1,4 @@
+pub mod AnyBehind
 pub mod Windows
 pub mod ItemTests
 pub mod LeastItems

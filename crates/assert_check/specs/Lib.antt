@@ -1,3 +1,4 @@
 pub mod Assertions
 pub mod Holding
+pub mod Idle
 pub mod Lines

@@ -10,7 +10,7 @@ use call_context::Item;
 use chip_numbers::Space;
 
 /// Whether two spaces are one.
-fn is_same(a: Space, b: Space) -> bool
+pub(crate) fn is_same(a: Space, b: Space) -> bool
     ensures { result ≡ is_same a b }
 {
     a == b

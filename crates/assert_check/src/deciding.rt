@@ -6,11 +6,11 @@ ghost use Rattle.std.specs.Map.{values_of};
 ghost use Rattle.std.specs.Ordering.{is_lt, nat_cmp};
 ghost use Rattle.item_lines.specs.Line.{item_line_of};
 ghost use Rattle.assert_check.specs.Assertions.{breaks_item, broken_of, least_of, lesser};
-ghost use Rattle.assert_check.specs.Holding.{Holds};
+ghost use Rattle.assert_check.specs.Holding.{Holds, HoldsBut};
 
 use crate::assertion::Assertion;
 use crate::breaking::breaks;
-use crate::laws::unbroken_lists_hold;
+use crate::laws::{unbroken_lists_hold, unnamed_assertions_hold};
 use call_context::{Item, Unit};
 use chip_analysis::Work;
 use chip_law::LawfulChip;
@@ -93,7 +93,7 @@ fn least_broken<C: InstrText, A>(
     Ok(least)
 }
 
-/// The assertions that a closed book breaks, in the order of the list. Where there are none, the list holds of every run.
+/// The assertions that a closed book breaks, in the order of the list. Each other one holds of every run.
 pub fn decide<C: LawfulChip + InstrText>(
     alloc: Global,
     chip: &C,
@@ -102,9 +102,11 @@ pub fn decide<C: LawfulChip + InstrText>(
 ) -> Result<Vec<Broken>, Memory>
     ensures exact { IfOk result (λ broken. broken.items ≡ broken_of (item_line_of (C.text_of chip.now)) list.now
         (flat_map (λ work. work.items) (values_of book.now.works))) }
+    ensures holds_but { IfOk result (λ broken. HoldsBut (C.machine book.now.base) list.now broken.items) }
     ensures holds { IfOk result (λ broken. broken.items ≡ [] → Holds (C.machine book.now.base) list.now) }
 {
     covers_runs(book);
+    unnamed_assertions_hold::<C>();
     unbroken_lists_hold::<C>();
     let mut broken = Vec::new(alloc);
     for (line, assertion) in list {

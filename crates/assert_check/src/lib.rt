@@ -9,13 +9,17 @@
 //! - [`read_lines`] gives exactly the assertions of a text, or its first line that is of no form.
 //! - [`decide`] gives exactly the assertions that a closed book breaks. Each set is decided by one or two cuts, so no number
 //!   of it is listed.
-//! - Where it gives none, nothing that the chip meets on any run breaks any of the assertions, and no run leaves the model
-//!   (`Holds` of `specs/Holding.antt`). [`unbroken_lists_hold`] is that law for any works that cover the runs.
+//! - Nothing that the chip meets on any run breaks an assertion that it doesn't give, and no run leaves the model (`HoldsBut`
+//!   of `specs/Holding.antt`). [`unnamed_assertions_hold`] is that law for any works that cover the runs.
+//! - So where it gives none, all of them hold (`Holds`): [`unbroken_lists_hold`].
+//! - [`idle_lines`] gives exactly the assertions on accesses to a space to which a closed book shows none, which nothing could
+//!   break (`specs/Idle.antt`).
 #![tactic(auto)]
 
 mod assertion;
 mod breaking;
 mod deciding;
+mod idle;
 mod laws;
 mod lines;
 mod parsing;
@@ -24,5 +28,6 @@ mod reaching;
 pub use assertion::Assertion;
 pub use breaking::breaks;
 pub use deciding::{Broken, decide};
-pub use laws::unbroken_lists_hold;
+pub use idle::idle_lines;
+pub use laws::{unbroken_lists_hold, unnamed_assertions_hold};
 pub use lines::{AssertError, MOST_BYTES, read_lines};

@@ -12,6 +12,9 @@
 //! new one is that journal with the call's one event, or with none where the answer is no ticket, or memory ran out. An
 //! exchange adds its posts and then its claims, each of which is what the book answers at its place.
 //!
+//! Behind each call the events of the seat's number, in the journal as far as it has seen it, are those of its own calls and no
+//! others (`own`).
+//!
 //! A ticket is out to a seat where it is out by the seat's `seen`, and claimed by it. It stays so until that seat ends
 //! it, whatever others do in between.
 #![tactic(auto)]

@@ -35,11 +35,13 @@ impl<C: Chip> FactTable<C> {
     pub fn new(alloc: Global, book: Book<C>, seats: u32) -> Result<(Self, Seat<C>), Memory>
         requires some_seat { 0 < seats }
         requires empty { book.journal ≡ [] }
-        ensures { IfOk result (λ t. t.1 ≡ first_seat (table_of t.0) book.base seats) }
+        ensures seat { IfOk result (λ t. t.1 ≡ first_seat (table_of t.0) book.base seats) }
+        ensures own { IfOk result (λ t. IsOwn seat_of t.1) }
     {
         let book = Box::new(alloc, book)?;
         let (turns, seat) = TurnTable::new(alloc, Facts { book }, seats)?;
         let door = Door::new();
+        seat.number();
         Ok((FactTable { turns, door }, seat))
     }
 
@@ -50,11 +52,13 @@ impl<C: Chip> FactTable<C> {
         requires chip { Some (C.base chip.now) ≡ seat.old.base }
         ensures answer { IfOk result (λ claimed. Claims C.analysis seat.old claimed seat.new) }
         ensures refused { OnErr result (Looks seat.old seat.new) }
+        ensures own { IsOwn seat_of seat.new }
     {
         let mut turn = self.turns.turn(rt, seat);
         let book = &mut *turn.value.book;
         let claimed = book.claim(chip, seat.number());
         self.turns.pass(seat, turn);
+        seat.number();
         claimed
     }
 
@@ -75,6 +79,7 @@ impl<C: Chip> FactTable<C> {
         ensures refused { OnErr result (Looks seat.old seat.new) }
         ensures still_out { OnErr result (IsOutTo C.analysis seat.new done.ticket) }
         ensures handed_back { IfErr result (λ refused. refused.1 ≡ done) }
+        ensures own { IsOwn seat_of seat.new }
     {
         outs_stay::<C>();
         // What the seat's own events are, before the turn and in it, says that the ticket is out still.
@@ -86,6 +91,7 @@ impl<C: Chip> FactTable<C> {
         self.turns.pass(seat, turn);
         // Others wait no longer while it is freed.
         drop(spent);
+        seat.number();
         posted
     }
 
@@ -109,7 +115,8 @@ impl<C: Chip> FactTable<C> {
         requires few { length done.items + want ≤ 8 }
         requires tickets { AreOutTo C.analysis seat.old (tickets_of done.items) }
         requires works { AllByRecursion (IsWorked (C.analysis (C.base chip.now))) done.items }
-        ensures { Exchanges C.analysis seat.old done.items want share result seat.new }
+        ensures exchanges { Exchanges C.analysis seat.old done.items want share result seat.new }
+        ensures own { IsOwn seat_of seat.new }
     {
         outs_stay::<C>();
         seat.number();
@@ -135,6 +142,7 @@ impl<C: Chip> FactTable<C> {
         drop(inside);
         // Others wait no longer while it is freed.
         drop(spent);
+        seat.number();
         exchanged
     }
 
@@ -146,6 +154,7 @@ impl<C: Chip> FactTable<C> {
         ensures given_back { Ends C.analysis seat.old ticket (GiveBack ticket.seat ticket.unit) seat.new }
         ensures others_out { (others : List (Out C.Abs)) → AreOutTo C.analysis seat.old (ticket ∷ others)
             → AreOutTo C.analysis seat.new others }
+        ensures own { IsOwn seat_of seat.new }
     {
         outs_stay::<C>();
         outs_stay_beside::<C>();
@@ -155,6 +164,7 @@ impl<C: Chip> FactTable<C> {
         book.journal();
         book.give_back(ticket);
         self.turns.pass(seat, turn);
+        seat.number();
     }
 
     /// Gives the seat's greatest number to a new seat, which has seen as much.
@@ -163,8 +173,12 @@ impl<C: Chip> FactTable<C> {
         requires room { 0 < seat.old.room }
         ensures seat { seat.new ≡ seat_split seat.old }
         ensures new { result ≡ new_seat seat.old }
+        ensures own { IsOwn seat_of seat.new × IsOwn seat_of result }
     {
-        self.turns.split(seat)
+        let new = self.turns.split(seat);
+        seat.number();
+        new.number();
+        new
     }
 
     /// Takes in another seat, which ends. The seat has then seen the longer of both journals, which begins with both.
@@ -173,8 +187,10 @@ impl<C: Chip> FactTable<C> {
         requires idle { other.holds ≡ false }
         ensures seat { seat.new ≡ seats_joined seat.old other }
         ensures begins { StartsWith seat.new.seen seat.old.seen × StartsWith seat.new.seen other.seen }
+        ensures own { IsOwn seat_of seat.new }
     {
         self.turns.join(seat, other);
+        seat.number();
     }
 
     /// Takes the table apart, once every seat stands in this one. The book's journal is what the seat has seen, and each

@@ -1,5 +1,5 @@
 -- PSW read and written as a byte.
-use Rattle.std.proofs.Common.{◌≡◌, ℕ, ◌+◌, ◌*◌, ◌/◌, ◌%◌, ◌^◌, ◌<◌, ◌==◌, Bool, true, false, Option, None, Some, List, length, refl, sym, ap, ◌∙◌, subst, arith, bit_and, bit_or}
+use Rattle.std.proofs.Common.{◌≡◌, ℕ, ◌+◌, ◌*◌, ◌/◌, ◌%◌, ◌^◌, ◌<◌, ◌==◌, Bool, true, false, Option, None, Some, List, refl, sym, ap, ◌∙◌, subst, arith, bit_and, bit_or}
 use Rattle.std.specs.Prelude.{slice_index_or, if◌then◌else◌}
 use Rattle.std.specs.Int.{bit_at}
 use Rattle.std.specs.Int.Bits.{or_zero_r, and_zero_l}
@@ -8,9 +8,8 @@ use Rattle.std.proofs.Math.Path.{ap₂}
 use Rattle.std.proofs.lemmas.Bool.{eqb-true}
 use Rattle.std.proofs.lemmas.Nat.{and_le_l, and_mask, and_mod, and_or_self, and_shr, or_lt, or_mod, or_shr, shr-shr, xor_lt}
 use Rattle.std.proofs.lemmas.Nat.Bits.{and_high_mask, bit_at_and, bit_at_or, bit_at_xor}
-use Rattle.entry_value.specs.declared.byte.Byte.{Byte}
 use Rattle.entry_value.specs.declared.word.Entry.{Entry}
-use Rattle.entry_value.specs.Words.{IsFromEntry, HoldsOfByte, Suspended}
+use Rattle.entry_value.specs.Words.{IsFromEntry, Suspended}
 use Rattle.irq_frames.specs.KnownLaws.{KnownLaws}
 use Rattle.value_bits.specs.declared.tri.Logic.{Logic as Bitwise}
 use Rattle.value_bits.specs.declared.tri.Logic.TheVariants.{And, Or, Xor}
@@ -27,14 +26,14 @@ use Rattle.mcs51_chip.specs.NumberFacts.{parity_below}
 use Rattle.mcs51_chip.specs.Registers.{parity, write_sfr}
 use Rattle.mcs51_chip.specs.State.{IsChipState}
 use Rattle.mcs51_state.specs.declared.status.Status.{Status}
-use Rattle.mcs51_state.specs.Forms.{IsByte, IsOwnRelation, IsRelation}
+use Rattle.mcs51_state.specs.Forms.{IsOwnRelation, IsRelation}
 use Rattle.mcs51_state.specs.Holding.{HoldsOfStatus}
 use Rattle.mcs51_state.specs.Places.{is_place, psw_place, suspended_of}
 use Rattle.mcs51_results.specs.declared.made.Operand.{Operand}
 use Rattle.mcs51_results.specs.declared.made.Operand.TheVariants.{Constant, Among}
 use Rattle.mcs51_results.specs.Holding.{AreOperands, IsOperand, IsStatus}
 use Rattle.mcs51_results.specs.Results.{bit_in, bitwise, masked_entry, set_of}
-use Rattle.mcs51_results.specs.StatusBytes.{all_bits, status_byte, own_entry, six, upper, bit_of_set, written_status, masked_status}
+use Rattle.mcs51_results.specs.StatusBytes.{all_bits, six, upper, bit_of_set, written_entry, masked_status}
 use Rattle.mcs51_results.proofs.SetLemmas.{operand_is}
 use Rattle.mcs51_results.proofs.StatusLemmas.{six_agree}
 use Rattle.mcs51_results.proofs.Accumulations.{entry_holds, entry_form, masked_logic}
@@ -114,24 +113,24 @@ relation_wider true (Some f) (Some e) p y held few (place, and_small, ands, or_s
 
 -- the own relation of a byte that is written
 own_word : (w and or : ℕ) → and < 256 → or < 256
-    → bit_or (bit_and w and) or / 4 * 4 ≡ bit_or (bit_and (w / 4 * 4) (bit_or and 3)) (bit_and or 252)
+    → bit_or (bit_and w and) or / 4 * 4 ≡ bit_or (bit_and (w / 4 * 4) (bit_or and 3)) (bit_and or 65532)
 own_word w and or and_small or_small =
-    let cut : bit_and or 252 ≡ or / 4 * 4 = and_high_mask 8 2 (omega arith) or or_small in
-    let none : bit_and or 252 % 4 ≡ 0 = ap (λ n. n % 4) cut ∙ omega arith in
-    let rest : bit_and or 252 / 4 ≡ or / 4 = ap (λ n. n / 4) cut ∙ omega arith in
+    let cut : bit_and or 65532 ≡ or / 4 * 4 = masked_four or (omega arith) in
+    let none : bit_and or 65532 % 4 ≡ 0 = ap (λ n. n % 4) cut ∙ omega arith in
+    let rest : bit_and or 65532 / 4 ≡ or / 4 = ap (λ n. n / 4) cut ∙ omega arith in
     let more : bit_or and 3 / 4 ≡ and / 4 = or_shr and 3 2 ∙ or_zero_r (and / 4) in
     let over : w / 4 * 4 % 4 ≡ 0 = omega arith in
     let quarter : w / 4 * 4 / 4 ≡ w / 4 = omega arith in
-    let new = bit_or (bit_and (w / 4 * 4) (bit_or and 3)) (bit_and or 252) in
+    let new = bit_or (bit_and (w / 4 * 4) (bit_or and 3)) (bit_and or 65532) in
     let low : new % 4 ≡ 0 =
-    low_masked (w / 4 * 4) (bit_or and 3) (bit_and or 252) ∙ ap₂ (λ a b. bit_or a b) (ap (λ n. bit_and n (bit_or and 3 % 4)) over ∙ and_zero_l (bit_or and 3 % 4)) none in
+    low_masked (w / 4 * 4) (bit_or and 3) (bit_and or 65532) ∙ ap₂ (λ a b. bit_or a b) (ap (λ n. bit_and n (bit_or and 3 % 4)) over ∙ and_zero_l (bit_or and 3 % 4)) none in
     let high : new / 4 ≡ bit_or (bit_and w and) or / 4 =
-    high_masked (w / 4 * 4) (bit_or and 3) (bit_and or 252) ∙ ap₂ (λ a b. bit_or a b) (ap₂ (λ a b. bit_and a b) quarter more) rest ∙ sym (high_masked w and or) in
+    high_masked (w / 4 * 4) (bit_or and 3) (bit_and or 65532) ∙ ap₂ (λ a b. bit_or a b) (ap₂ (λ a b. bit_and a b) quarter more) rest ∙ sym (high_masked w and or) in
     omega (arith, low, high)
 
 own_by : (first : Option ChipState) (e : Entry) (x : ℕ) (same : Bool) → (e.place == psw_place) ≡ same → e.and < 256 → e.or < 256
     → IsFromEntry (option_map suspended_of first) (Some e) x
-    → IsFromEntry (option_map suspended_of first) (if same then Some (record { place = e.place; and = bit_or e.and 3; or = bit_and e.or 252 }) else None) (x / 4 * 4)
+    → IsFromEntry (option_map suspended_of first) (if same then Some (record { place = e.place; and = bit_or e.and 3; or = bit_and e.or 65532 }) else None) (x / 4 * 4)
 own_by first e x false is and_small or_small holds = tt
 own_by None e x true is and_small or_small holds = absurd holds
 own_by (Some f) e x true is and_small or_small (w, (small, reads), value) =
@@ -144,20 +143,20 @@ own_by (Some f) e x true is and_small or_small (w, (small, reads), value) =
 
 pub own_holds : (framed : Bool) (first : Option ChipState) (entry : Option Entry) (x : ℕ) → IsRelation framed entry
     → IsFromEntry (option_map suspended_of first) entry x
-    → IsFromEntry (option_map suspended_of first) (own_entry entry) (x / 4 * 4)
+    → IsFromEntry (option_map suspended_of first) (written_entry entry) (x / 4 * 4)
 own_holds framed first None x form holds = tt
 own_holds false first (Some e) x form holds = absurd form
 own_holds true first (Some e) x (place, ands, ors) holds = own_by first e x (e.place == psw_place) refl ands ors holds
 
 own_form_by : (e : Entry) (same : Bool) → (e.place == psw_place) ≡ same → e.and < 256 → e.or < 256
-    → IsOwnRelation true psw_place 3 (if same then Some (record { place = e.place; and = bit_or e.and 3; or = bit_and e.or 252 }) else None)
+    → IsOwnRelation true psw_place 3 (if same then Some (record { place = e.place; and = bit_or e.and 3; or = bit_and e.or 65532 }) else None)
 own_form_by e false is and_small or_small = tt
 own_form_by e true is and_small or_small =
-    let cut : bit_and e.or 252 ≡ e.or / 4 * 4 = and_high_mask 8 2 (omega arith) e.or or_small in
-    let none : bit_and (bit_and e.or 252) 3 ≡ 0 = and_mask (bit_and e.or 252) 2 ∙ ap (λ n. n % 4) cut ∙ omega arith in
-    (eqb-true e.place psw_place is, or_lt 8 e.and 3 and_small (omega arith), and_or_self 3 e.and, omega (arith, and_le_l e.or 252, or_small), none)
+    let cut : bit_and e.or 65532 ≡ e.or / 4 * 4 = masked_four e.or (omega arith) in
+    let none : bit_and (bit_and e.or 65532) 3 ≡ 0 = and_mask (bit_and e.or 65532) 2 ∙ ap (λ n. n % 4) cut ∙ omega arith in
+    (eqb-true e.place psw_place is, or_lt 8 e.and 3 and_small (omega arith), and_or_self 3 e.and, omega (arith, and_le_l e.or 65532, or_small), none)
 
-pub own_form : (framed : Bool) (entry : Option Entry) → IsRelation framed entry → IsOwnRelation framed psw_place 3 (own_entry entry)
+pub own_form : (framed : Bool) (entry : Option Entry) → IsRelation framed entry → IsOwnRelation framed psw_place 3 (written_entry entry)
 own_form framed None form = tt
 own_form false (Some e) form = absurd form
 own_form true (Some e) (place, ands, ors) = own_form_by e (e.place == psw_place) refl ands ors
@@ -183,33 +182,6 @@ pub status_agrees : (first : Option Suspended) (psw : Status) (s : ChipState) (x
     → MayReadSfr s Psw x → Agrees (all_bits psw) x
 status_agrees first psw s x state holds (bit, few, is) =
     subst (Agrees (all_bits psw)) (sym is) (read_agrees psw s.psw bit (parity s.a) state.psw state.psw_held few (parity_below s.a) holds.bits)
-
-pub read_holds : (laws : KnownLaws) (framed : Bool) (first : Option ChipState) (psw : Status) (s : ChipState) (x : ℕ) → IsChipState s
-    → IsStatus framed psw → HoldsOfStatus (option_map suspended_of first) psw s.psw → MayReadSfr s Psw x
-    → HoldsOfByte (option_map suspended_of first) (status_byte psw) x
-read_holds laws framed first psw s x state form holds may =
-    let long : length (all_bits psw) ≡ 8 = refl in
-    let agrees = status_agrees (option_map suspended_of first) psw s x state holds may in
-    (laws.bits.from 8 x (all_bits psw) long agrees, read_entry framed first psw s x state form holds may)
-
-pub read_form : (laws : KnownLaws) (framed : Bool) (psw : Status) → IsStatus framed psw → IsByte framed (status_byte psw)
-read_form laws framed psw form =
-    let long : length (all_bits psw) ≡ 8 = refl in
-    record { normal = laws.bits.from_normal 8 (all_bits psw) long; entry = own_is framed psw.entry form.entry }
-
--- WRITING
-
-pub written_holds : (laws : KnownLaws) (framed : Bool) (first : Option ChipState) (byte : Byte) (s : ChipState) (x : ℕ) → IsByte framed byte
-    → HoldsOfByte (option_map suspended_of first) byte x
-    → HoldsOfStatus (option_map suspended_of first) (written_status byte) (write_sfr Psw x s).psw
-written_holds laws framed first byte s x form holds =
-    let small = laws.sets.below 256 x byte.set form.normal holds.0 in record {
-      bits = subst (Agrees (upper (known_bits 8 byte.set))) (write_quarter x) (upper_agree (known_bits 8 byte.set) x small (laws.bits.known 8 x byte.set form.normal holds.0));
-      entry = own_holds framed first byte.entry x form.entry holds.1;
-    }
-
-pub written_form : (framed : Bool) (byte : Byte) → IsByte framed byte → IsStatus framed (written_status byte)
-written_form framed byte form = record { bits = refl; entry = own_form framed byte.entry form.entry }
 
 -- LOGIC
 

@@ -86,18 +86,9 @@ pub record ChangesHold : Type 0 where
   pub pointer_form : (framed : Bool) (dpl dph : Byte) → IsByte framed dpl → IsByte framed dph
       → IsByte framed (results.pointer_increased dpl dph).0 × IsByte framed (results.pointer_increased dpl dph).1
 
--- PSW as a byte: what is known when it is read holds of each byte that it may read as, and what is known behind a write of a
--- byte, also of one that ORL, ANL or XRL made, holds of what the chip then holds. The form is kept.
+-- PSW as a byte: what is known behind a write of a byte that ORL, ANL or XRL made of it holds of what the chip then holds. The
+-- form is kept.
 pub record StatusesHold : Type 0 where
-  pub read : (framed : Bool) (first : Option ChipState) (psw : Status) (s : ChipState) (x : ℕ) → IsChipState s
-      → IsStatus framed psw → HoldsOfStatus (option_map suspended_of first) psw s.psw → MayReadSfr s Psw x
-      → HoldsOfByte (option_map suspended_of first) (statuses.status_byte psw) x
-  pub read_form : (framed : Bool) (psw : Status) → IsStatus framed psw → IsByte framed (statuses.status_byte psw)
-  pub written : (framed : Bool) (first : Option ChipState) (byte : Byte) (s : ChipState) (x : ℕ) → IsByte framed byte
-      → HoldsOfByte (option_map suspended_of first) byte x
-      → HoldsOfStatus (option_map suspended_of first) (statuses.written_status byte) (write_sfr Psw x s).psw
-  pub written_form : (framed : Bool) (byte : Byte) → IsByte framed byte
-      → IsStatus framed (statuses.written_status byte)
   pub masked : (framed : Bool) (first : Option ChipState) (done : Logic) (psw : Status) (operand : Operand)
       (s : ChipState) (x mask : ℕ)
       → IsChipState s → IsStatus framed psw → HoldsOfStatus (option_map suspended_of first) psw s.psw

@@ -1,7 +1,7 @@
 -- PSW as a byte, bit by bit: of its bits 7 to 2 as much is known as was known of them, and its bits 1 and 0 are read as any: bit 1
 -- isn't held, and P isn't taken from what is known of the accumulator (Intel, MCS-51 Programmer's Guide and Instruction Set,
 -- "Program Status Word"). And bits of bytes.
-use Rattle.std.specs.Prelude.{ℕ, ◌+◌, ◌-◌, ◌%◌, ◌^◌, ◌==◌, if◌then◌else◌, Option, None, Some, List, [], ◌∷◌, bit_and, bit_or, slice_index_or, slice_set}
+use Rattle.std.specs.Prelude.{ℕ, ◌+◌, ◌-◌, ◌%◌, ◌^◌, Option, None, List, [], ◌∷◌, slice_index_or, slice_set}
 use Rattle.std.specs.Int.{bit_at}
 use Rattle.std.specs.Option.{option_map}
 use Rattle.entry_value.specs.declared.byte.Byte.{Byte}
@@ -22,6 +22,7 @@ use Rattle.mcs51_decode.specs.declared.instr.CarryOperation.{CarryOperation}
 use Rattle.mcs51_decode.specs.declared.instr.CarryOperation.TheVariants as carry
 use Rattle.mcs51_state.specs.declared.status.Status.{Status}
 use Rattle.mcs51_state.specs.Places.{psw_place}
+use Rattle.mcs51_state.specs.Writing.{own_entry}
 use Rattle.mcs51_chip.specs.Arithmetic.{bit_after}
 use Rattle.mcs51_chip.specs.Registers.{with_bit}
 use Rattle.mcs51_results.specs.declared.made.Operand.{Operand}
@@ -35,15 +36,9 @@ six at = at 0 ∷ at 1 ∷ at 2 ∷ at 3 ∷ at 4 ∷ at 5 ∷ []
 abbrev pub all_bits : Status → List Tri
 all_bits psw = Either ∷ Either ∷ six (bit_in psw)
 
-abbrev pub status_byte : Status → Byte
-status_byte psw = record { set = from_bits 8 (all_bits psw); entry = psw.entry }
-
--- Of a byte that is written to PSW a relation to PSW alone is kept. Its AND mask gains the bits that aren't held, and its OR
--- mask loses them.
-abbrev pub own_entry : Option Entry → Option Entry
-own_entry None = None
-own_entry (Some entry) =
-    if entry.place == psw_place then Some (record { place = entry.place; and = bit_or entry.and 3; or = bit_and entry.or 252 }) else None
+-- of a byte that is written to PSW a relation to PSW alone is kept
+abbrev pub written_entry : Option Entry → Option Entry
+written_entry entry = own_entry psw_place 3 entry
 
 -- the bits 7 to 2 of a byte
 abbrev pub upper : List Tri → List Tri
@@ -52,14 +47,11 @@ upper bits = six (λ place. slice_index_or bits (2 + place) Either)
 abbrev pub bit_of_set : Form → (place : ℕ) → Tri
 bit_of_set set place = slice_index_or (known_bits 8 set) place Either
 
-abbrev pub written_status : Byte → Status
-written_status byte = record { bits = upper (known_bits 8 byte.set); entry = own_entry byte.entry }
-
 -- ORL, ANL and XRL of PSW
 abbrev pub masked_status : Logic → Status → Operand → Status
 masked_status operation psw operand = record {
   bits = six (λ place. tri_logic (bitwise operation) (bit_in psw place) (bit_of_set (set_of operand) (2 + place)));
-  entry = own_entry (masked_entry operation operand psw.entry);
+  entry = written_entry (masked_entry operation operand psw.entry);
 }
 
 -- CY
@@ -122,5 +114,5 @@ bit_of_status psw place = slice_index_or (all_bits psw) place Either
 abbrev pub status_with_bit : BitOperation → (at : ℕ) → Status → Status
 status_with_bit operation at psw = record {
   bits = upper (slice_set (all_bits psw) (at % 8) (bit_made operation (carry_in psw) (bit_of_status psw (at % 8))));
-  entry = own_entry (bit_entry operation (at % 8) psw.entry);
+  entry = written_entry (bit_entry operation (at % 8) psw.entry);
 }

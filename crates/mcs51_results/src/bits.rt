@@ -8,7 +8,7 @@ ghost use Rattle.mcs51_results.specs.StatusBytes as status;
 
 use crate::combining::{chosen, is_few};
 use crate::results::carry_in;
-use crate::status::{all_bits, bit_at, opposite, own_entry, upper};
+use crate::status::{all_bits, bit_at, opposite, upper, written_entry};
 use entry_value::{Byte, Entry};
 use mcs51_decode::BitOperation;
 use mcs51_state::Status;
@@ -168,6 +168,6 @@ pub fn status_with_bit(operation: BitOperation, at: u8, psw: &Status) -> Status
     bits[place] = bit_made(operation, carry_in(psw), bit_at(&bits, place));
     Status {
         bits: upper(&bits),
-        entry: own_entry(bit_entry(operation, at % 8, psw.entry)),
+        entry: written_entry(bit_entry(operation, at % 8, psw.entry)),
     }
 }

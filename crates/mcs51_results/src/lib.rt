@@ -5,8 +5,8 @@
 //! - [`multiplied_made`] and [`divided_made`] are MUL and DIV, and give B too.
 //! - [`masked_made`] is ORL, ANL or XRL of a byte, [`increased`] and [`decreased`] are INC and DEC, and [`pointer_increased`]
 //!   is INC DPTR.
-//! - [`status_byte`] is PSW as it is read, with any P. [`written_status`] is PSW behind a write of a byte, and [`masked_status`]
-//!   behind ORL, ANL or XRL, bit by bit.
+//! - [`masked_status`] is PSW behind ORL, ANL or XRL, bit by bit. PSW as it is read and behind a write of a byte stands in
+//!   `mcs51_state`.
 //! - [`carry_made`] and [`carry_bit_made`] are the operations on CY, [`byte_with_bit`] and [`status_with_bit`] those on a bit of
 //!   a byte and of PSW by its address, and [`bit_of_byte`] and [`bit_of_status`] are what is known of such a bit.
 //!
@@ -37,4 +37,4 @@ pub use results::{
     accumulated_made, changed_made, decreased, divided_made, increased, masked_made,
     multiplied_made, pointer_increased, twice_made,
 };
-pub use status::{carry_bit_made, carry_made, masked_status, status_byte, written_status};
+pub use status::{carry_bit_made, carry_made, masked_status};

@@ -8,9 +8,9 @@ ghost use Rattle.mcs51_results.specs.StatusBytes as status;
 
 use crate::made::Operand;
 use crate::results::{bit_in, carried, carry_in, masked_entry, set_of};
-use entry_value::{Byte, Entry};
+use entry_value::Entry;
 use mcs51_decode::{CarryByBit, CarryOperation, Logic};
-use mcs51_state::Status;
+use mcs51_state::{Status, own_entry};
 use value_bits::{Tri, w8};
 use value_set::Vs8;
 
@@ -31,16 +31,6 @@ pub(crate) fn all_bits(psw: &Status) -> [Tri; 8]
         bit_in(psw, 4),
         bit_in(psw, 5),
     ]
-}
-
-/// PSW as it is read, with any P.
-pub fn status_byte(psw: &Status) -> Byte
-    ensures { result ≡ status.status_byte psw.now }
-{
-    Byte {
-        set: w8::from_bits(&all_bits(psw)),
-        entry: psw.entry,
-    }
 }
 
 /// The bit of a byte at a place.
@@ -66,27 +56,10 @@ pub(crate) fn upper(bits: &[Tri; 8]) -> [Tri; 6]
 }
 
 /// The relation of a byte that is written to PSW.
-pub(crate) fn own_entry(entry: Option<Entry>) -> Option<Entry>
-    ensures { result ≡ status.own_entry entry }
+pub(crate) fn written_entry(entry: Option<Entry>) -> Option<Entry>
+    ensures { result ≡ status.written_entry entry }
 {
-    match entry {
-        Some(entry) if entry.place == PSW_PLACE => Some(Entry {
-            place: entry.place,
-            and: entry.and | 3,
-            or: entry.or & 252,
-        }),
-        _ => None,
-    }
-}
-
-/// PSW behind a write of a byte.
-pub fn written_status(byte: &Byte) -> Status
-    ensures { result ≡ status.written_status byte.now }
-{
-    Status {
-        bits: upper(&w8::bits(&byte.set)),
-        entry: own_entry(byte.entry),
-    }
+    own_entry(PSW_PLACE, 3, entry)
 }
 
 /// A bit is the other one.
@@ -157,7 +130,7 @@ pub fn masked_status(operation: Logic, psw: &Status, operand: &Operand) -> Statu
             masked_bit(operation, bit_in(psw, 4), bit_at(&mask, 6)),
             masked_bit(operation, bit_in(psw, 5), bit_at(&mask, 7)),
         ],
-        entry: own_entry(masked_entry(operation, operand, psw.entry)),
+        entry: written_entry(masked_entry(operation, operand, psw.entry)),
     }
 }
 

@@ -89,7 +89,7 @@ pub use operands::{
 };
 pub use ram::word_of;
 pub use reading::{carry, ram_values, read_bit, read_byte};
-pub use registers::set_accumulator;
+pub use registers::{own_entry, set_accumulator};
 pub use showing::{
     access, show_address, show_pointer, show_read, show_update, show_update_at, show_write,
 };

@@ -16,8 +16,8 @@ use mcs51_chip::Sfr;
 use value_bits::{Tri, w8};
 use value_set::Vs8;
 
-/// A relation of a register to itself: the bits that the register doesn't hold are any.
-fn own_entry(place: u16, unheld: u8, entry: Option<Entry>) -> Option<Entry>
+/// A relation of a register to itself: the bits that the register doesn't hold are any. There is none to another place.
+pub fn own_entry(place: u16, unheld: u8, entry: Option<Entry>) -> Option<Entry>
     ensures { result ≡ writing.own_entry place unheld entry }
 {
     match entry {

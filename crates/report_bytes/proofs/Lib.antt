@@ -1,11 +1,10 @@
 pub mod ClosingLemmas
 pub mod CountLemmas
-pub mod GreatestLemmas
-pub mod LeastLemmas
+pub mod DeepestLemmas
 pub mod OneStackLemmas
 pub mod OrderLemmas
-pub mod Places
 pub mod ReportLemmas
 pub mod SetLemmas
 pub mod ShownLemmas
 pub mod ShowsLemmas
+pub mod StackLemmas

@@ -1,6 +1,8 @@
 -- The deepest stack pointer is the same in whatever order items stand, where their stacks grow one way.
 use Rattle.std.proofs.Common.{◌≡◌, ℕ, List, [], ◌∷◌, Option, None, Some, refl, sym, ap, ◌∙◌, subst, inl, inr, arith}
-use Rattle.std.specs.Prelude.{Contains, min, max, option_map}
+use Rattle.std.proofs.lemmas.Bool.{cases_lt}
+use Rattle.std.specs.Prelude.{◌⊎◌, Contains, min, max, option_map}
+use Rattle.value_set.specs.declared.form.Form.{Form}
 use Rattle.call_context.specs.declared.shown.Item.{Item}
 use Rattle.call_context.specs.declared.shown.Item.TheVariants.{Instr, Edge, Access, Stack}
 use Rattle.call_context.specs.declared.shown.Set.TheVariants.{B, W}
@@ -8,6 +10,7 @@ use Rattle.report_bytes.specs.declared.deepest.Deepest.{Deepest}
 use Rattle.report_bytes.specs.declared.deepest.Deepest.TheVariants.{Least, Greatest}
 use Rattle.report_bytes.specs.Deepest.{deeper, deeper_of, deepest_in, deepest_of, greatest_byte, least_word}
 use Rattle.report_bytes.specs.Stacks.{GrowsOneWay, HasNoByteStack, HasNoWordStack}
+use Rattle.plain_lemmas.specs.Cases.{same_Some}
 use Rattle.plain_lemmas.specs.Members.{in_cons, in_first, in_none, in_rest}
 
 -- A least or a greatest of numbers, where there are any.
@@ -87,6 +90,34 @@ module _ (op : ℕ → ℕ → ℕ) (along : (a b c : ℕ) → op (op a b) c ≡
         ∙ met_turned first second
         ∙ past_all items None second (none_past second) (λ item there. past_each others None item (are item there))
 
+    -- what is met is past each number, and is one of them
+    met_each : (items : List Item) (item : Item) (v : ℕ) → Contains items item → number item ≡ Some v
+        → (d : ℕ) × (all_met None items ≡ Some d) × (op d v ≡ d)
+    met_each items item v there is =
+        let past : met (all_met None items) (Some v) ≡ all_met None items = ap (met (all_met None items)) (sym is) ∙ past_each items None item there in
+        by_some v (all_met None items) past
+      where
+        by_some : (v : ℕ) (all : Option ℕ) → met all (Some v) ≡ all → (d : ℕ) × (all ≡ Some d) × (op d v ≡ d)
+        by_some v None e = absurd (cc)
+        by_some v (Some d) e = (d, refl, same_Some e)
+
+    module _ (either : (a b : ℕ) → (op a b ≡ a) ⊎ (op a b ≡ b)) where
+      of_two : (a b : Option ℕ) (v : ℕ) → met a b ≡ Some v → (a ≡ Some v) ⊎ (b ≡ Some v)
+      of_two None b v e = inr e
+      of_two (Some a) None v e = inl e
+      of_two (Some a) (Some b) v e = elim (either a b) [ inl is ↦ inl (ap Some (sym is) ∙ e) | inr is ↦ inr (ap Some (sym is) ∙ e) ]
+
+      met_from : (items : List Item) (so_far : Option ℕ) (v : ℕ) → all_met so_far items ≡ Some v
+          → (so_far ≡ Some v) ⊎ ((item : Item) × Contains items item × (number item ≡ Some v))
+      met_from [] so_far v e = inl e
+      met_from (item ∷ items) so_far v e = elim (met_from items (met so_far (number item)) v e) [
+        | inr found ↦ inr (found.0, in_rest item items found.0 found.1, found.2)
+        | inl here ↦ elim (of_two so_far (number item) v here) [
+          | inl before ↦ inl before
+          | inr own ↦ inr (item, in_first item items, own)
+        ]
+      ]
+
     -- the deepest of items that all go this way
     module _ (make : ℕ → Deepest) (meets : (a b : ℕ) → deeper (make a) (make b) ≡ make (op a b)) where
       made : (a b : Option ℕ) → deeper_of (option_map make a) (option_map make b) ≡ option_map make (met a b)
@@ -101,6 +132,30 @@ module _ (op : ℕ → ℕ → ℕ) (along : (a b c : ℕ) → op (op a b) c ≡
       all_made (item ∷ items) so_far each =
           ap (λ d. deepest_of d items) (ap (deeper_of (option_map make so_far)) (each item (in_first item items)) ∙ made so_far (number item))
           ∙ all_made items (met so_far (number item)) (λ other there. each other (in_rest item items other there))
+
+      -- it is past the number of each item, and is one of them
+      deepest_each : (items : List Item) → ((item : Item) → Contains items item → deepest_in item ≡ option_map make (number item))
+          → (item : Item) (v : ℕ) → Contains items item → number item ≡ Some v
+          → (d : ℕ) × (deepest_of None items ≡ Some (make d)) × (op d v ≡ d)
+      deepest_each items each item v there is =
+          let found = met_each items item v there is in
+          (found.0, all_made items None each ∙ ap (option_map make) found.1, found.2)
+
+      abbrev IsFrom : List Item → Type 0
+      IsFrom items = (d : ℕ) × (item : Item) × (deepest_of None items ≡ Some (make d)) × Contains items item × (number item ≡ Some d)
+
+      by_all : ((a b : ℕ) → (op a b ≡ a) ⊎ (op a b ≡ b)) → (items : List Item) (all : Option ℕ) → all_met None items ≡ all
+          → deepest_of None items ≡ option_map make (all_met None items) → (deepest_of None items ≡ None) ⊎ IsFrom items
+      by_all either items None e is = inl (is ∙ ap (option_map make) e)
+      by_all either items (Some d) e is = elim (met_from either items None d e) [
+        | inl none ↦ absurd (cc)
+        | inr found ↦ inr (d, found.0, is ∙ ap (option_map make) e, found.1, found.2)
+      ]
+
+      deepest_from : ((a b : ℕ) → (op a b ≡ a) ⊎ (op a b ≡ b)) → (items : List Item)
+          → ((item : Item) → Contains items item → deepest_in item ≡ option_map make (number item))
+          → (deepest_of None items ≡ None) ⊎ IsFrom items
+      deepest_from either items each = by_all either items (all_met None items) refl (all_made items None each)
 
       one_made : (items others : List Item) → ((item : Item) → Contains items item → deepest_in item ≡ option_map make (number item))
           → ((item : Item) → Contains items item → Contains others item) → ((item : Item) → Contains others item → Contains items item)
@@ -148,3 +203,60 @@ one_deepest items others (inl words) are are' =
     one_made min (λ a b c. omega arith) (λ a b. omega arith) (λ a. omega arith) word_in Least (λ a b. refl) items others (is_word items words) are are'
 one_deepest items others (inr bytes) are are' =
     one_made max (λ a b c. omega arith) (λ a b. omega arith) (λ a. omega arith) byte_in Greatest (λ a b. refl) items others (is_byte items bytes) are are'
+
+-- THE DEEPEST OF ITEMS
+
+-- the deepest is at most each least word, and is one of them where there is any
+pub words_each : (items : List Item) → HasNoByteStack items → (pc : ℕ) (values : Form) (v : ℕ) → Contains items (Stack pc (W values))
+    → least_word values ≡ Some v → (d : ℕ) × (deepest_of None items ≡ Some (Least d)) × (min d v ≡ d)
+words_each items words pc values v there is =
+    deepest_each min (λ a b c. omega arith) (λ a b. omega arith) (λ a. omega arith) word_in Least (λ a b. refl) items (is_word items words)
+    (Stack pc (W values)) v there is
+
+-- an item shows the number
+abbrev pub IsWordOf : List Item → ℕ → Type 0
+IsWordOf items d = (pc : ℕ) × (values : Form) × (deepest_of None items ≡ Some (Least d)) × Contains items (Stack pc (W values))
+    × (least_word values ≡ Some d)
+
+word_of : (items : List Item) (d : ℕ) (item : Item) → deepest_of None items ≡ Some (Least d) → Contains items item → word_in item ≡ Some d
+    → IsWordOf items d
+word_of items d (Stack pc (W values)) is there e = (pc, values, is, there, e)
+word_of items d (Stack pc (B values)) is there e = absurd (cc)
+word_of items d (Instr pc bytes) is there e = absurd (cc)
+word_of items d (Edge origin target) is there e = absurd (cc)
+word_of items d (Access pc space write size at) is there e = absurd (cc)
+
+pub words_from : (items : List Item) → HasNoByteStack items → (deepest_of None items ≡ None) ⊎ ((d : ℕ) × IsWordOf items d)
+words_from items words =
+    elim (deepest_from min (λ a b c. omega arith) (λ a b. omega arith) (λ a. omega arith) word_in Least (λ a b. refl)
+    (λ a b. elim (cases_lt a b) [ inl below ↦ inl (omega arith) | inr past ↦ inr (omega arith) ]) items (is_word items words)) [
+      | inl none ↦ inl none
+      | inr found ↦ inr (found.0, word_of items found.0 found.1 found.2 found.3 found.4)
+    ]
+
+-- the deepest is at least each greatest byte, and is one of them where there is any
+pub bytes_each : (items : List Item) → HasNoWordStack items → (pc : ℕ) (values : Form) (v : ℕ) → Contains items (Stack pc (B values))
+    → greatest_byte values ≡ Some v → (d : ℕ) × (deepest_of None items ≡ Some (Greatest d)) × (max d v ≡ d)
+bytes_each items bytes pc values v there is =
+    deepest_each max (λ a b c. omega arith) (λ a b. omega arith) (λ a. omega arith) byte_in Greatest (λ a b. refl) items (is_byte items bytes)
+    (Stack pc (B values)) v there is
+
+abbrev pub IsByteOf : List Item → ℕ → Type 0
+IsByteOf items d = (pc : ℕ) × (values : Form) × (deepest_of None items ≡ Some (Greatest d)) × Contains items (Stack pc (B values))
+    × (greatest_byte values ≡ Some d)
+
+byte_of : (items : List Item) (d : ℕ) (item : Item) → deepest_of None items ≡ Some (Greatest d) → Contains items item → byte_in item ≡ Some d
+    → IsByteOf items d
+byte_of items d (Stack pc (W values)) is there e = absurd (cc)
+byte_of items d (Stack pc (B values)) is there e = (pc, values, is, there, e)
+byte_of items d (Instr pc bytes) is there e = absurd (cc)
+byte_of items d (Edge origin target) is there e = absurd (cc)
+byte_of items d (Access pc space write size at) is there e = absurd (cc)
+
+pub bytes_from : (items : List Item) → HasNoWordStack items → (deepest_of None items ≡ None) ⊎ ((d : ℕ) × IsByteOf items d)
+bytes_from items bytes =
+    elim (deepest_from max (λ a b c. omega arith) (λ a b. omega arith) (λ a. omega arith) byte_in Greatest (λ a b. refl)
+    (λ a b. elim (cases_lt a b) [ inl below ↦ inr (omega arith) | inr past ↦ inl (omega arith) ]) items (is_byte items bytes)) [
+      | inl none ↦ inl none
+      | inr found ↦ inr (found.0, byte_of items found.0 found.1 found.2 found.3 found.4)
+    ]

@@ -68,7 +68,7 @@ in_put (x ∷ xs) line y = let rest = in_put xs line y in
       ]
     ]
 
-in_with_lines : (lines set : List (List ℕ)) (y : List ℕ) → Contains (with_lines set lines) y → Contains set y ⊎ Contains lines y
+pub in_with_lines : (lines set : List (List ℕ)) (y : List ℕ) → Contains (with_lines set lines) y → Contains set y ⊎ Contains lines y
 in_with_lines [] set y h = inl h
 in_with_lines (line ∷ lines) set y h = elim (in_with_lines lines (insert_key order set line) y h) [
   | inl there ↦ elim (in_put set line y there) [

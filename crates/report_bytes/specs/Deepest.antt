@@ -1,9 +1,9 @@
 -- How deep stacks go: down to a least stack pointer where it is a word, and up to a greatest one where it is a byte.
-use Rattle.std.specs.Prelude.{ℕ, ◌+◌, ◌-◌, ◌*◌, ◌%◌, ◌≤◌, ◌==◌, nat_lt, ◌&&◌, ◌||◌, min, max, if◌then◌else◌, Bool, Option, None, Some, List, [], ◌∷◌, codes, option_map}
+use Rattle.std.specs.Prelude.{ℕ, ◌≤◌, ◌==◌, ◌&&◌, ◌||◌, min, max, if◌then◌else◌, Bool, false, Option, None, Some, List, [], ◌∷◌, codes, fold, option_map}
 use Rattle.value_set.specs.declared.form.Form.{Form}
 use Rattle.value_set.specs.declared.form.Form.TheVariants.{Values, Run}
-use Rattle.value_set.specs.declared.form.Progression.{Progression}
-use Rattle.value_set.specs.Form.{Has}
+use Rattle.value_set.specs.Form.{Has, members}
+use Rattle.call_context.specs.declared.shown.Set.{Set}
 use Rattle.call_context.specs.declared.shown.Set.TheVariants.{B, W}
 use Rattle.call_context.specs.declared.shown.Item.{Item}
 use Rattle.call_context.specs.declared.shown.Item.TheVariants.{Instr, Edge, Access, Stack}
@@ -11,50 +11,39 @@ use Rattle.hex_digits.specs.Digits.{hex}
 use Rattle.report_bytes.specs.declared.deepest.Deepest.{Deepest}
 use Rattle.report_bytes.specs.declared.deepest.Deepest.TheVariants.{Least, Greatest}
 
--- THE LEAST OF WORDS
+-- SETS
 
--- the first of some values that ascend
-abbrev pub first_value : List ℕ → Option ℕ
-first_value [] = None
-first_value (value ∷ values) = Some value
+-- all words, or all even words
+abbrev pub has_all_words : Form → Bool
+has_all_words (Values values) = false
+has_all_words (Run run) = (run.count == 65536) || ((run.count == 32768) && (run.stride == 2) && (run.base == 0))
 
--- a run of all words, or of all even words
-abbrev pub is_whole : Progression → Bool
-is_whole run = (run.count == 65536) || ((run.count == 32768) && (run.stride == 2) && (run.base == 0))
+-- all bytes
+abbrev pub has_all_bytes : Form → Bool
+has_all_bytes (Values values) = false
+has_all_bytes (Run run) = run.count == 256
 
--- the least number of a run modulo 65536: its base, or where it goes round the first number behind the turn
-abbrev pub least_in_run : Progression → ℕ
-least_in_run run =
-    if nat_lt (run.base + (run.count - 1) * run.stride) 65536 then run.base
-    else (run.stride - (65536 - run.base) % run.stride) % run.stride
+-- a set of stack pointers that has all numbers, or all even words
+abbrev pub is_whole : Set → Bool
+is_whole (W values) = has_all_words values
+is_whole (B values) = has_all_bytes values
+
+-- the least number of a list, or the greatest: of each two of them one stays
+abbrev pub extreme_of : (ℕ → ℕ → ℕ) → List ℕ → Option ℕ
+extreme_of stays [] = None
+extreme_of stays (x ∷ xs) = Some (fold stays x xs)
 
 -- the least number of a set of words that isn't whole
 abbrev pub least_word : Form → Option ℕ
-least_word (Values values) = first_value values
-least_word (Run run) = if is_whole run then None else Some (least_in_run run)
+least_word values = if has_all_words values then None else extreme_of min (members 65536 values)
+
+-- the greatest number of a set of bytes that isn't whole
+abbrev pub greatest_byte : Form → Option ℕ
+greatest_byte values = if has_all_bytes values then None else extreme_of max (members 256 values)
 
 -- a number of a set of words, and no other is less
 abbrev pub IsLeast : Form → ℕ → Type 0
 IsLeast set least = Has 65536 set least × ((value : ℕ) → Has 65536 set value → least ≤ value)
-
--- THE GREATEST OF BYTES
-
--- the last of some values that ascend
-abbrev pub last_value : List ℕ → Option ℕ
-last_value [] = None
-last_value (value ∷ []) = Some value
-last_value (value ∷ next ∷ values) = last_value (next ∷ values)
-
--- the greatest number of a run modulo 256: its last one, or where it goes round the last one before the turn
-abbrev pub greatest_in_run : Progression → ℕ
-greatest_in_run run =
-    if nat_lt (run.base + (run.count - 1) * run.stride) 256 then run.base + (run.count - 1) * run.stride
-    else 255 - (255 - run.base) % run.stride
-
--- the greatest number of a set of bytes, where it hasn't all
-abbrev pub greatest_byte : Form → Option ℕ
-greatest_byte (Values values) = last_value values
-greatest_byte (Run run) = if run.count == 256 then None else Some (greatest_in_run run)
 
 -- a number of a set of bytes, and no other is greater
 abbrev pub IsGreatest : Form → ℕ → Type 0

@@ -4,4 +4,5 @@ pub mod Deepest
 pub mod Opens
 pub mod Report
 pub mod Shows
+pub mod StackLines
 pub mod Stacks

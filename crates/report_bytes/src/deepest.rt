@@ -1,11 +1,10 @@
 //! How deep stacks go.
 
 ghost use Rattle.std.specs.Prelude.{◌≡◌, IfSome};
-ghost use Rattle.value_set.specs.Form.{IsNormalRun};
-ghost use Rattle.report_bytes.specs.Deepest.{IsGreatest, IsLeast, deeper as the_deeper, deeper_of as the_deeper_of, deepest_in as the_deepest_in, deepest_of as the_deepest_of, greatest_byte, greatest_in_run, is_whole, least_in_run, least_word};
+ghost use Rattle.report_bytes.specs.Deepest.{IsGreatest, IsLeast, deeper as the_deeper, deeper_of as the_deeper_of, deepest_in as the_deepest_in, deepest_of as the_deepest_of, greatest_byte, has_all_bytes as all_bytes, has_all_words as all_words, least_word};
 
 use call_context::{Item, Set};
-use value_set::{Form, Progression, Vs8, Vs16};
+use value_set::{Form, Vs8, Vs16};
 
 /// The stack pointer at which a stack is deepest: the least one of a stack that grows downward by words, or the greatest
 /// one of a stack that grows upward by bytes.
@@ -37,38 +36,26 @@ fn deeper_of(a: Option<Deepest>, b: Option<Deepest>) -> Option<Deepest>
     }
 }
 
-/// Whether a run has all words, or all even words.
-fn is_whole_run(run: &Progression) -> bool
-    ensures { result ≡ is_whole run.now }
+/// Whether a set has all words, or all even words.
+fn has_all_words(values: &Vs16) -> bool
+    ensures { result ≡ all_words values.now }
 {
-    run.count == 65536 || (run.count == 32768 && run.stride == 2 && run.base == 0)
+    match values.form() {
+        Form::Values(_) => false,
+        Form::Run(run) => {
+            run.count == 65536 || (run.count == 32768 && run.stride == 2 && run.base == 0)
+        }
+    }
 }
 
-/// The least number of a run of words.
-fn least_of_run(run: &Progression) -> u16
-    requires { IsNormalRun 65536 run.now.base run.now.stride run.now.count }
-    ensures { result ≡ least_in_run run.now }
+/// Whether a set has all bytes.
+fn has_all_bytes(values: &Vs8) -> bool
+    ensures { result ≡ all_bytes values.now }
 {
-    let stride = run.stride as u32;
-    let base = run.base as u32;
-    if base + (run.count - 1) * stride < 65536 {
-        return run.base;
+    match values.form() {
+        Form::Values(_) => false,
+        Form::Run(run) => run.count == 256,
     }
-    ((stride - (65536 - base) % stride) % stride) as u16
-}
-
-/// The greatest number of a run of bytes.
-fn greatest_of_run(run: &Progression) -> u8
-    requires { IsNormalRun 256 run.now.base run.now.stride run.now.count }
-    ensures { result ≡ greatest_in_run run.now }
-{
-    let stride = run.stride as u32;
-    let base = run.base as u32;
-    let last = base + (run.count - 1) * stride;
-    if last < 256 {
-        return last as u8;
-    }
-    (255 - (255 - base) % stride) as u8
 }
 
 /// The least number of a set of words that isn't whole.
@@ -76,15 +63,10 @@ pub fn least_number(values: &Vs16) -> Option<u16>
     ensures value { result ≡ least_word values.now }
     ensures least { IfSome result (IsLeast values.now) }
 {
-    match values.form() {
-        Form::Values(few) => few.as_slice().first().copied(),
-        Form::Run(run) => {
-            if is_whole_run(&run) {
-                return None;
-            }
-            Some(least_of_run(&run))
-        }
+    if has_all_words(values) {
+        return None;
     }
+    Some(values.least())
 }
 
 /// The greatest number of a set of bytes, where it hasn't all.
@@ -92,18 +74,10 @@ pub fn greatest_number(values: &Vs8) -> Option<u8>
     ensures value { result ≡ greatest_byte values.now }
     ensures greatest { IfSome result (IsGreatest values.now) }
 {
-    match values.form() {
-        Form::Values(few) => match few.as_slice().last() {
-            Some(value) => Some(*value as u8),
-            None => None,
-        },
-        Form::Run(run) => {
-            if run.count == 256 {
-                return None;
-            }
-            Some(greatest_of_run(&run))
-        }
+    if has_all_bytes(values) {
+        return None;
     }
+    Some(values.greatest())
 }
 
 /// The deepest stack pointer that an item shows by a set that isn't whole.

@@ -1,12 +1,14 @@
 //! What a report shows of works and of tables, and when two are one.
 
 ghost use Rattle.std.specs.Prelude.{◌≡◌, true, Bool, ℕ, List, IsPermutation};
+ghost use Rattle.std.specs.Map.{values_of};
 ghost use Rattle.call_context.specs.declared.node.Node.{Node};
 ghost use Rattle.call_context.specs.declared.node.Unit.{Unit as WorkUnit};
 ghost use Rattle.chip_analysis.specs.declared.chip.Work.{Work};
 ghost use Rattle.closed_book.specs.ClosedBook.{HaveSame, IsClosedBook};
 ghost use Rattle.report_bytes.specs.Report.{closed_report, items_of, report_of, report_of_journal};
 ghost use Rattle.report_bytes.specs.Shows.{ShowsTable, ShowsWorks};
+ghost use Rattle.report_bytes.specs.StackLines.{TellsStacks};
 ghost use Rattle.report_bytes.specs.Stacks.{GrowsOneWay, HasOneStack};
 ghost use Rattle.book_rules.specs.Machine.{replay, IsFinished, IsLegalJournal};
 ghost use Rattle.book_rules.specs.Table.{table_of};
@@ -52,4 +54,19 @@ pub fn closed_reports_are_of_tables<C: Chip>()
 {
     tables_have_no_order::<C>();
     reports_have_no_order::<C>();
+}
+
+/// The `T` line of the report of works, whose stacks grow one way, is that of its `S` lines.
+pub fn reports_tell_stacks<C: Chip>()
+    ensures { (text_of : ℕ → List ℕ → List ℕ) (works : List (Work C.Abs)) → GrowsOneWay (items_of works)
+        → TellsStacks works (report_of text_of true works) }
+{}
+
+/// So is that of the report of a closed book, where the stacks of the chip grow one way.
+pub fn closed_reports_tell_stacks<C: Chip>()
+    ensures { (base : C.Base) (text_of : ℕ → List ℕ → List ℕ) (nodes : List (Node × C.Abs))
+        (works : List (WorkUnit × Work C.Abs)) → HasOneStack (C.analysis base) → IsClosedBook (C.analysis base) nodes works
+        → TellsStacks (values_of works) (closed_report text_of works) }
+{
+    reports_tell_stacks::<C>();
 }

@@ -5,6 +5,7 @@
 
 mod faults;
 mod inputs;
+mod mirrored;
 mod need;
 mod noted;
 mod progress;
@@ -17,6 +18,7 @@ mod words;
 
 pub use faults::{Fault, image_fault, text_fault};
 pub use inputs::other_input;
+pub use mirrored::{Mirrored, mirrored_in};
 pub use need::{asked_of, print_need};
 pub use noted::Noted;
 pub use progress::{line_of, megabytes_in};

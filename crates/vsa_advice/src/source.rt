@@ -1,6 +1,6 @@
 //! A source that remembers how its text begins, and how a line of it does.
 
-use crate::words::has_word;
+use crate::words::{begins_word, has_word};
 use arrayvec::ArrayVec;
 use hex_digits::word_in_either_case;
 use std::alloc::Global;
@@ -116,6 +116,14 @@ impl<S: Source + Drop> NotedSource<S> {
         }
     }
 
+    /// The whole text, where it was kept, and where memory comes from.
+    pub(crate) fn kept(&self) -> Option<(Global, &[u8])> {
+        match &self.text {
+            Some(text) => Some((*text.allocator(), text.as_slice())),
+            None => None,
+        }
+    }
+
     /// The first bytes of the text.
     pub fn first(&self) -> &[u8] {
         self.first.as_slice()
@@ -203,9 +211,10 @@ impl<S: Source + Drop> Source for NotedSource<S> {
     }
 }
 
-/// A list for the text of a run, whose question is looked up where its script ends too early.
+/// A list for the text of a run, whose question is looked up where its script ends too early, and of assertions where RAM has a
+/// mirror, of which some may speak.
 pub fn kept_text(alloc: Global, words: &[String]) -> Option<Vec<u8>> {
-    if has_word(words, "run") {
+    if has_word(words, "run") || has_word(words, "assert") && begins_word(words, "--mirror") {
         Some(Vec::new(alloc))
     } else {
         None

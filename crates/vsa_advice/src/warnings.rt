@@ -1,5 +1,6 @@
 //! Warnings of what a report shows that is rarely meant.
 
+use crate::mirrored::{Mirrored, mirrored_in};
 use crate::source::NotedSource;
 use crate::words::has_word;
 use report_watch::{Mcs51Seen, Msp430Seen, Seen, Watch};
@@ -61,7 +62,7 @@ pub fn lacks_assertions<S: Source + Drop>(words: &[String], source: &NotedSource
     has_word(words, "assert") && source.second_lines() == 0
 }
 
-/// Warns where no assertion was asked: any image that closes holds then.
+/// Warns where no assertion was asked, as any image that closes holds then, and where one speaks of the mirror alone.
 pub fn print_unasked<S: Source + Drop>(
     rt: &impl Eprint,
     words: &[String],
@@ -72,5 +73,18 @@ pub fn print_unasked<S: Source + Drop>(
             "vsa: warning: no assertion stands behind the image text, and then any image holds whose report is closed. Is their file left out, as the last word, or empty?"
         )?;
     }
-    Ok(())
+    match source.kept() {
+        Some((alloc, text)) => print_mirrored(rt, mirrored_in(alloc, words, text)),
+        None => Ok(()),
+    }
+}
+
+/// Warns of an assertion on the mirror alone.
+fn print_mirrored(rt: &impl Eprint, found: Option<Mirrored>) -> io::Result<()> {
+    let Some(Mirrored { line, ram }) = found else {
+        return Ok(());
+    };
+    eprintln!(rt;
+        "vsa: warning: the assertion in line {line} speaks of the mirror of RAM alone. Accesses there are told by RAM's addresses, from {ram:04X}h on, so nothing can break it: say it of these."
+    )
 }

@@ -4,3 +4,8 @@
 pub fn has_word(words: &[String], word: &str) -> bool {
     words.iter().any(|own| own.as_str() == word)
 }
+
+/// Whether one of the words begins so.
+pub fn begins_word(words: &[String], front: &str) -> bool {
+    words.iter().any(|own| own.as_str().starts_with(front))
+}

@@ -1,7 +1,7 @@
-use Rattle.mcs51_results.proofs.StatusWrites.{read_holds, read_form, written_holds, written_form, masked_psw_holds, masked_psw_form}
+use Rattle.mcs51_results.proofs.StatusWrites.{masked_psw_holds, masked_psw_form}
 use Rattle.mcs51_results.proofs.laws.statuses_hold.Goals as goal
 
 pub returns : goal.returns
 returns c =
     let laws = c.known_laws.ensures in
-    assumption (read_holds laws, read_form laws, written_holds laws, written_form, masked_psw_holds laws, masked_psw_form)
+    assumption (masked_psw_holds laws, masked_psw_form)

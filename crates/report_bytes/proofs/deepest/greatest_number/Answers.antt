@@ -1,19 +1,17 @@
-use Rattle.std.proofs.Common.{sym, ◌∙◌, arith}
-use Rattle.report_bytes.proofs.GreatestLemmas.{list_below, list_greatest, run_greatest}
+use Rattle.std.proofs.Common.{◌≤◌, ◌∙◌, sym, ap, None}
+use Rattle.std.specs.Prelude.{max, if◌then◌else◌}
+use Rattle.value_set.specs.Form.{members}
+use Rattle.report_bytes.specs.Deepest.{extreme_of}
+use Rattle.report_bytes.proofs.DeepestLemmas.{extreme_one}
+use Rattle.report_bytes.proofs.StackLemmas.{more}
 use Rattle.report_bytes.proofs.deepest.greatest_number.Goals as goal
 
-pub overflow_cast-result : goal.overflow_cast-result
-overflow_cast-result c =
-    let below = list_below c.args.values.now c.in-Values.few c.as_slice.result.now c.in-Some.value.now c.form.ensures.normal
-    (sym c.form.ensures.value ∙ c.in-Values.is) c.as_slice.ensures.numbers c.in-Some.ensures.value in
-    omega (arith, below)
+pub returns-then-has_all_bytes-clause-value : goal.returns-then-has_all_bytes-clause-value
+returns-then-has_all_bytes-clause-value c =
+    sym (ap (λ b. if b then None else extreme_of max (members 256 c.args.values.now)) (sym c.has_all_bytes.ensures ∙ c.if-has_all_bytes.true))
 
-pub returns-in-Some-clause-greatest : goal.returns-in-Some-clause-greatest
-returns-in-Some-clause-greatest c =
-    list_greatest c.args.values.now c.in-Values.few c.as_slice.result.now c.in-Some.value.now c.form.ensures.normal
-    (sym c.form.ensures.value ∙ c.in-Values.is) c.as_slice.ensures.numbers c.in-Some.ensures.value
-
-pub returns-else-run-eq256-clause-greatest : goal.returns-else-run-eq256-clause-greatest
-returns-else-run-eq256-clause-greatest c =
-    run_greatest c.args.values.now c.in-Run.run' c.greatest_of_run.result c.form.ensures.normal (sym c.form.ensures.value ∙ c.in-Run.is)
-    c.greatest_of_run.ensures
+pub returns-clause-value : goal.returns-clause-value
+returns-clause-value c =
+    let values = c.args.values.now in
+    sym (ap (λ b. if b then None else extreme_of max (members 256 values)) (sym c.has_all_bytes.ensures ∙ c.if-has_all_bytes.false)
+    ∙ extreme_one max (λ a b. b ≤ a) more (members 256 values) c.greatest.result (c.greatest.ensures.member, c.greatest.ensures.last))

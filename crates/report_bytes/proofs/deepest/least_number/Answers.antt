@@ -1,13 +1,17 @@
-use Rattle.std.proofs.Common.{sym, ◌∙◌}
-use Rattle.report_bytes.proofs.LeastLemmas.{list_least, run_least}
+use Rattle.std.proofs.Common.{◌≤◌, ◌∙◌, sym, ap, None}
+use Rattle.std.specs.Prelude.{min, if◌then◌else◌}
+use Rattle.value_set.specs.Form.{members}
+use Rattle.report_bytes.specs.Deepest.{extreme_of}
+use Rattle.report_bytes.proofs.DeepestLemmas.{extreme_one}
+use Rattle.report_bytes.proofs.StackLemmas.{less}
 use Rattle.report_bytes.proofs.deepest.least_number.Goals as goal
 
-pub returns-in-Values-clause-least : goal.returns-in-Values-clause-least
-returns-in-Values-clause-least c =
-    list_least c.args.values.now c.in-Values.few c.as_slice.result.now c.copied.result c.form.ensures.normal (sym c.form.ensures.value ∙ c.in-Values.is)
-    c.as_slice.ensures.numbers (c.copied.ensures ∙ c.first.ensures.value)
+pub returns-then-has_all_words-clause-value : goal.returns-then-has_all_words-clause-value
+returns-then-has_all_words-clause-value c =
+    sym (ap (λ b. if b then None else extreme_of min (members 65536 c.args.values.now)) (sym c.has_all_words.ensures ∙ c.if-has_all_words.true))
 
-pub returns-else-is_whole_run-clause-least : goal.returns-else-is_whole_run-clause-least
-returns-else-is_whole_run-clause-least c =
-    run_least c.args.values.now c.in-Run.run' c.is_whole_run.result c.least_of_run.result c.form.ensures.normal (sym c.form.ensures.value ∙ c.in-Run.is)
-    c.is_whole_run.ensures c.if-is_whole_run.false c.least_of_run.ensures
+pub returns-clause-value : goal.returns-clause-value
+returns-clause-value c =
+    let values = c.args.values.now in
+    sym (ap (λ b. if b then None else extreme_of min (members 65536 values)) (sym c.has_all_words.ensures ∙ c.if-has_all_words.false)
+    ∙ extreme_one min (λ a b. a ≤ b) less (members 65536 values) c.least.result (c.least.ensures.member, c.least.ensures.first))

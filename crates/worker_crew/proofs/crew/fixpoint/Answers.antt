@@ -9,10 +9,10 @@ use Rattle.worker_crew.proofs.crew.fixpoint.Goals as goal
 pub returns-clause-seats : goal.returns-clause-seats
 returns-clause-seats g c =
     subst (λ seats. AllBelow seat_of seats c.close-book.result.journal)
-    (c.work_beside-seat.ensures.takes_in.seats ∙ ap (λ s. s.seats) c.in_ok-table.ensures) c.close-book.ensures.below
+    (c.work_beside-seat.ensures.takes_in.seats ∙ ap (λ s. s.seats) c.in_ok-table.ensures.seat) c.close-book.ensures.below
 
 pub returns-clause-answered : goal.returns-clause-answered
 returns-clause-answered g c = λ number.
-    let first : EachAnswered (seats_known c.in_ok-table.seat) = subst (λ s. EachAnswered (seats_known s)) (sym c.in_ok-table.ensures) (refl, tt) in
+    let first : EachAnswered (seats_known c.in_ok-table.seat) = subst (λ s. EachAnswered (seats_known s)) (sym c.in_ok-table.ensures.seat) (refl, tt) in
     subst AreAnswered (sym (c.close-book.ensures.events number))
     (each_under number (seats_known c.work_beside-seat.result) (c.work_beside-seat.ensures.answered first))

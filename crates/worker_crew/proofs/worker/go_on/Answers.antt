@@ -14,7 +14,7 @@ returns-then-ran_out-clause-ended g c =
     let all = units_of (tickets_of done) in
     let left = units_of (tickets_of r.unposted.items ++ r.tickets.items) in
     let serves : Serves all [] worked last =
-    serves_then all left [] worked new last (exchange_serves g.C.Chip.analysis worked new done c.wanted.result 1 r c.exchange-exchanged.ensures) c.give_back_all.ensures in
+    serves_then all left [] worked new last (exchange_serves g.C.Chip.analysis worked new done c.wanted.result 1 r c.exchange-exchanged.ensures.exchanges) c.give_back_all.ensures in
     subst (λ s. Serves (units_of c.args.tickets.items) [] s last) c.in_ok-done.ensures.seat
     (subst (λ ts. Serves (units_of ts) [] worked last) c.in_ok-done.ensures.done serves)
 
@@ -25,4 +25,4 @@ returns-clause-goes_on g c =
     let r = c.exchange-exchanged.result in
     subst (λ s. GoesOn g.C.Chip.analysis c.args.tickets.items s r.tickets.items new) c.in_ok-done.ensures.seat
     (exchange_goes_on g.C.Chip.analysis worked new c.in_ok-done.done.items c.wanted.result 1 r c.args.tickets.items c.in_ok-done.ensures.done c.wanted.ensures.few
-    (c.ran_out.ensures (ap not c.if-ran_out.false)) c.exchange-exchanged.ensures)
+    (c.ran_out.ensures (ap not c.if-ran_out.false)) c.exchange-exchanged.ensures.exchanges)

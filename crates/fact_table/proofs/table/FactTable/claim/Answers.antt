@@ -28,4 +28,5 @@ returns g c =
           (subst (λ number. IfOk claimed (λ a. AnswersClaim (g.C.Chip.analysis k.base) k k' number a)) (c.number.ensures.number ∙ ap (λ s. s.number) turn.start.begun_is)
           c.claim-claimed.ensures.answer);
       refused = on_err claimed c.claim-claimed.ensures.refused (looks g.C.Chip.analysis _ _ _ k k' turn);
+      own = c.number-2.ensures.own;
     }

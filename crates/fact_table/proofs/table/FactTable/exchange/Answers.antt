@@ -44,8 +44,8 @@ pass-requires-clause-adds g c =
     (subst (λ n. AllByRecursion (λ t. t.seat ≡ n) (tickets_of c.args.done.items)) (sym number) c.requires.tickets.seat)
     (subst (λ n. ExchangesOn m n k c.args.done.items c.args.want c.args.share r.unposted.items r.tickets.items r.last k') c.number-number.ensures.number c.exchange_on-exchanged.ensures.exchanges)))
 
-pub returns : goal.returns
-returns g c =
+pub returns-clause-exchanges : goal.returns-clause-exchanges
+returns-clause-exchanges g c =
     let k = c.deref_mut-book.result.now in
     let k' = c.exchange_on-exchanged.new.book in
     let r = c.exchange_on-exchanged.result in
@@ -60,7 +60,7 @@ returns g c =
     (c.number-number.ensures.number ∙ ap (λ s. s.number) turn.start.begun_is) c.exchange_on-exchanged.ensures.exchanges)
     c.exchange_on-exchanged.ensures.left
 
-pub returns-in_default : goal.returns-in_default
-returns-in_default g c =
+pub returns-in_default-clause-exchanges : goal.returns-in_default-clause-exchanges
+returns-in_default-clause-exchanges g c =
     exchange_none g.C.Chip.analysis c.args.seat.now c.args.done.items c.args.want c.args.share (record { unposted = c.args.done; tickets = c.new.result; last = Memory; left = true })
     c.requires.tickets refl c.new.ensures.items refl refl

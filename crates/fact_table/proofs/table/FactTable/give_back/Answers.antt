@@ -22,6 +22,7 @@ returns g c =
       given_back = ends g.C.Chip.analysis _ _ _ k _ ticket (GiveBack ticket.seat ticket.unit) turn out c.give_back.ensures;
       others_out = λ others h. outs_behind g.C.Chip.analysis _ _ _ k _ ticket (GiveBack ticket.seat ticket.unit) others
           c.outs_stay.ensures c.outs_stay_beside.ensures refl turn c.number.ensures.own c.turn-turn.ensures.own c.journal.ensures.legal c.give_back.ensures h;
+      own = c.number-2.ensures.own;
     }
 
 pub pass-requires-clause-adds : goal.pass-requires-clause-adds

@@ -35,4 +35,5 @@ returns g c =
       still_out = on_err c.post_one-posted.result.0 post.refused
           (λ same. still_out g.C.Chip.analysis _ _ _ k _ ticket turn same out c.requires.ticket);
       handed_back = post.handed_back;
+      own = c.number-2.ensures.own;
     }
