@@ -6,36 +6,28 @@ use Rattle.analysis_limits.specs.declared.limits.Limits.{Limits}
 use Rattle.call_context.specs.declared.node.Node.{Node}
 use Rattle.cert_text.specs.Writing.{IsCert}
 use Rattle.chip_analysis.specs.Analysis.{Analysis}
-use Rattle.mcs51_flow.specs.Texts.{mcs51_texts}
-use Rattle.mcs51_flow.specs.declared.setting.Setting.{Setting as Mcs51Setting}
-use Rattle.msp430_flow.specs.Texts.{msp430_texts}
-use Rattle.msp430_flow.specs.declared.setting.Setting.{Setting as Msp430Setting}
 use Rattle.book_rules.specs.Kept.{nodes_of}
 use Rattle.book_rules.specs.Machine.{replay}
 use Rattle.state_text.specs.Texts.{StateTexts}
 use Rattle.worker_rounds.specs.Turns.{FinishesAlone}
-use Rattle.mcs51_flow.specs.Standing.{instr_text as mcs51_text}
-use Rattle.mcs51_flow.specs.Chip.{mcs51_analysis}
-use Rattle.msp430_flow.specs.Standing.{instr_text as msp430_text}
-use Rattle.msp430_flow.specs.Chip.{msp430_analysis}
 use Rattle.report_bytes.specs.Report.{are_closed, last_works, report_of_journal}
 use Rattle.vsa_top.specs.declared.outcome.Status.{Status}
 use Rattle.vsa_top.specs.declared.outcome.Status.TheVariants as status
 use Rattle.vsa_words.specs.declared.reading.Reading.{Reading}
 use Rattle.vsa_words.specs.declared.reading.Target.{Target}
-use Rattle.vsa_words.specs.declared.reading.Target.TheVariants.{Msp430, Mcs51}
 use Rattle.vsa_top.specs.Alone.{IsOneReply, TellsAnalysis, WorksAlone}
 use Rattle.vsa_top.specs.Alone.WorksAlone.{of_input, of_made}
 use Rattle.vsa_top.specs.Answer.{Answers, IsAnalysed, IsAnalysedOn, IsFollowed, IsImageReply, IsReply, IsReported, IsReportedOn, TellsNoFault, status_of_analysis, summary_on}
 use Rattle.vsa_top.specs.Answer.IsReply.{of_image, of_bad, of_long}
 use Rattle.vsa_top.specs.Input.{InputGives, input_of}
-use Rattle.vsa_top.specs.Settings.{device_of, mcs51_setting, msp430_setting}
+use Rattle.vsa_top.specs.Family.{family_of}
+use Rattle.vsa_top.specs.Laws.{AreOneOf}
 use Rattle.vsa_words.specs.Words.{rules_of, usual_limits, usual_target, usual_task, tail_of}
 use Rattle.vsa_top.proofs.HeadlineLemmas.{HaveOneImage, gives_reply}
 
--- one worker's journals of an analysis are one
-abbrev pub AreOne : {B A : Type 0} → (B → Analysis A) → Type 0
-AreOne {B} analysis = (base : B) (one other : List Event) → FinishesAlone (analysis base) one → FinishesAlone (analysis base) other → one ≡ other
+-- what is known of both chips
+abbrev pub HaveOnes : Type 0
+HaveOnes = (target : Target) (limits : Limits) (image : List (Option ℕ)) → AreOneOf target limits image
 
 -- two replies are the same
 abbrev AreSame : Status → List ℕ → List Event → Status → List ℕ → List Event → Type 0
@@ -59,28 +51,15 @@ analysed_same text_of m workers one alone other report events answered text jour
       same,
     )
 
-on_same : AreOne msp430_analysis → AreOne mcs51_analysis
+on_same : HaveOnes
     → (target : Target) (limits : Limits) (workers : ℕ) (image : List (Option ℕ)) → workers ≡ 1
     → (other : Status) (report : List ℕ) (events : List Event) (answered : Status) (text : List ℕ) (journal : List Event)
     → IsAnalysedOn target limits workers image other report events → IsAnalysedOn target limits workers image answered text journal
     → AreSame other report events answered text journal
-on_same msp430 mcs51 (Msp430 ram) limits workers image alone =
-    let setting = msp430_setting ram limits image in analysed_same msp430_text (msp430_analysis setting) workers (msp430 setting) alone
-on_same msp430 mcs51 Mcs51 limits workers image alone =
-    let setting = mcs51_setting limits image in analysed_same mcs51_text (mcs51_analysis setting) workers (mcs51 setting) alone
+on_same ones target limits workers image alone =
+    let f = family_of target image in analysed_same f.text_of (f.analysis limits) workers (ones target limits image).journal alone
 
 -- WITH A CERTIFICATE
-
--- nodes have one certificate
-abbrev HaveOneText : {B A : Type 0} → (B → Analysis A) → (B → StateTexts A) → Type 0
-HaveOneText {B} {A} analysis texts = (base : B) (nodes : List (Node × A)) (one other : List ℕ) → IsCert (analysis base) (texts base) nodes one
-    → IsCert (analysis base) (texts base) nodes other → one ≡ other
-
-abbrev CertsMsp430 : Type 0
-CertsMsp430 = HaveOneText msp430_analysis (λ (s : Msp430Setting). msp430_texts s.device)
-
-abbrev CertsMcs51 : Type 0
-CertsMcs51 = HaveOneText mcs51_analysis (λ (s : Mcs51Setting). mcs51_texts)
 
 followed_same : {A : Type 0} (m : Analysis A) (texts : StateTexts A) (cert : Bool) → ((nodes : List (Node × A)) (one other : List ℕ)
     → IsCert m texts nodes one → IsCert m texts nodes other → one ≡ other)
@@ -102,33 +81,31 @@ reported_same text_of m texts workers cert one certs alone other written events 
     that.analysed this.analysed in
     (status_is, followed_same m texts cert certs that.report written events this.report text journal report_is journal_is that.followed this.followed, journal_is)
 
-told_same : AreOne msp430_analysis → AreOne mcs51_analysis → CertsMsp430 → CertsMcs51
+told_same : HaveOnes
     → (target : Target) (limits : Limits) (workers : ℕ) (cert : Bool) (image : List (Option ℕ)) → workers ≡ 1
     → (other : Status) (written : List ℕ) (events : List Event) (answered : Status) (text : List ℕ) (journal : List Event)
     → IsReportedOn target limits workers cert image other written events
     → IsReportedOn target limits workers cert image answered text journal
     → AreSame other written events answered text journal
-told_same msp430 mcs51 certs codes (Msp430 ram) limits workers cert image alone =
-    let setting = msp430_setting ram limits image in
-    reported_same msp430_text (msp430_analysis setting) (msp430_texts (device_of ram image)) workers cert (msp430 setting) (certs setting) alone
-told_same msp430 mcs51 certs codes Mcs51 limits workers cert image alone =
-    let setting = mcs51_setting limits image in
-    reported_same mcs51_text (mcs51_analysis setting) mcs51_texts workers cert (mcs51 setting) (codes setting) alone
+told_same ones target limits workers cert image alone =
+    let f = family_of target image in
+    let one = ones target limits image in
+    reported_same f.text_of (f.analysis limits) f.texts workers cert one.journal one.certificate alone
 
 -- the replies to one image
-image_same : AreOne msp430_analysis → AreOne mcs51_analysis → CertsMsp430 → CertsMcs51
+image_same : HaveOnes
     → (reading : Reading) (image : List (Option ℕ)) (second behind : Option (List ℕ))
     → WorksAlone reading
     → (other : Status) (report : List ℕ) (events : List Event) (answered : Status) (text : List ℕ) (journal : List Event)
     → IsImageReply reading image second other report events → IsImageReply reading image behind answered text journal
     → AreSame other report events answered text journal
-image_same msp430 mcs51 certs codes reading image second behind (of_input task alone) other report events answered text journal that this =
-    told_same msp430 mcs51 certs codes task.target task.limits task.workers task.cert image alone other report events answered text journal that this
-image_same msp430 mcs51 certs codes reading image second behind (of_made chip number) other report events answered text journal that this =
+image_same ones reading image second behind (of_input task alone) other report events answered text journal that this =
+    told_same ones task.target task.limits task.workers task.cert image alone other report events answered text journal that this
+image_same ones reading image second behind (of_made chip number) other report events answered text journal that this =
     let task = usual_task chip in
     let (whole, is, sum) = that in
     let (whole_so, is_so, sum_so) = this in
-    let (status_is, report_is, journal_is) = on_same msp430 mcs51 task.target task.limits task.workers image refl
+    let (status_is, report_is, journal_is) = on_same ones task.target task.limits task.workers image refl
     other whole events answered whole_so journal is is_so in
     (status_is, sum ∙ ap (summary_on (usual_target chip) usual_limits image chip number) journal_is ∙ sym sum_so, journal_is)
 
@@ -164,34 +141,34 @@ not_long : (answered : Status) → TellsAnalysis answered → answered ≡ statu
 not_long answered (inl done) e = absurd (cc)
 not_long answered (inr left) e = absurd (cc)
 
-reply_same : AreOne msp430_analysis → AreOne mcs51_analysis → CertsMsp430 → CertsMcs51 → HaveOneImage
+reply_same : HaveOnes → HaveOneImage
     → (reading : Reading) → WorksAlone reading → (input : List ℕ)
     → (other : Status) (report : List ℕ) (events : List Event) (answered : Status) (text : List ℕ) (journal : List Event)
     → TellsAnalysis other → TellsAnalysis answered → IsReply reading (Some input) other report events
     → IsReply reading (Some input) answered text journal
     → AreSame other report events answered text journal
-reply_same msp430 mcs51 certs codes one reading works input other report events answered text journal tells told (of_image image second gives that)
+reply_same ones one reading works input other report events answered text journal tells told (of_image image second gives that)
     (of_image image_so behind more this) =
     let same = one_image one reading works input second behind image image_so gives more in
-    image_same msp430 mcs51 certs codes reading image_so second behind works other report events answered text journal
+    image_same ones reading image_so second behind works other report events answered text journal
     (subst (λ i. IsImageReply reading i second other report events) same that) this
-reply_same msp430 mcs51 certs codes one reading works input other report events answered text journal tells told (of_image image second gives that)
+reply_same ones one reading works input other report events answered text journal tells told (of_image image second gives that)
     (of_bad line fault bad is line_is none) =
     absurd (no_image answered told is)
-reply_same msp430 mcs51 certs codes one reading works input other report events answered text journal tells told (of_image image second gives that)
+reply_same ones one reading works input other report events answered text journal tells told (of_image image second gives that)
     (of_long long is line_is none) =
     absurd (not_long answered told is)
-reply_same msp430 mcs51 certs codes one reading works input other report events answered text journal tells told (of_bad line fault bad is line_is none) this =
+reply_same ones one reading works input other report events answered text journal tells told (of_bad line fault bad is line_is none) this =
     absurd (no_image other tells is)
-reply_same msp430 mcs51 certs codes one reading works input other report events answered text journal tells told (of_long long is line_is none) this =
+reply_same ones one reading works input other report events answered text journal tells told (of_long long is line_is none) this =
     absurd (not_long other tells is)
 
-pub one_reply : AreOne msp430_analysis → AreOne mcs51_analysis → CertsMsp430 → CertsMcs51 → HaveOneImage
+pub one_reply : HaveOnes → HaveOneImage
     → (reading : Reading) (answered : Status) (input before after : Option (List ℕ)) (journal : List Event)
     (text : List ℕ) → WorksAlone reading → Answers reading answered input before after journal → TellsAnalysis answered
     → input_of reading input ≡ Some text
     → IsOneReply reading (Some text) answered before after journal
-one_reply msp430 mcs51 certs codes one reading answered input before after journal text works answers tells e =
+one_reply ones one reading answered input before after journal text works answers tells e =
     let given = gives_reply reading answered input before after journal answers (no_fault answered tells) (has_room answered tells) in
     let reply = subst (λ i. IsReply reading i answered given.text journal) e given.reply in
     record {
@@ -199,5 +176,5 @@ one_reply msp430 mcs51 certs codes one reading answered input before after journ
       reply = reply;
       written = given.held;
       alone = λ other report events told that.
-          reply_same msp430 mcs51 certs codes one reading works text other report events answered given.text journal told tells that reply;
+          reply_same ones one reading works text other report events answered given.text journal told tells that reply;
     }

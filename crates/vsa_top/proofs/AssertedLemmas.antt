@@ -21,12 +21,12 @@ use Rattle.book_rules.specs.declared.event.Event.{Event}
 use Rattle.streams.specs.Stream.{IsAtEnd}
 use Rattle.vsa_top.specs.Answer.{IsAnalysis, IsDecided, IsDecidedOn, TellsNoFault}
 use Rattle.vsa_top.specs.Answer.IsDecided.{decided, reported}
+use Rattle.vsa_top.specs.Family.{family_of}
 use Rattle.vsa_top.specs.Asserted.{LacksAssertions, broken_in, broken_text, refusal_of, status_of_broken, unread_of}
 use Rattle.vsa_top.specs.Input.{begun_with}
 use Rattle.vsa_top.specs.Scripts.{second_limit}
 use Rattle.vsa_top.specs.declared.outcome.Status.{Status}
 use Rattle.vsa_top.specs.declared.outcome.Status.TheVariants as status
-use Rattle.vsa_words.specs.declared.reading.Target.TheVariants.{Msp430, Mcs51}
 use Rattle.vsa_words.specs.declared.reading.Target.{Target}
 use Rattle.vsa_top.specs.declared.second.SecondError.{SecondError}
 use Rattle.vsa_top.specs.declared.second.SecondError.TheVariants as second_error
@@ -76,8 +76,8 @@ quiet_decision text_of m workers list replied text journal (decided is closed to
 
 pub quiet_on : (target : Target) (limits : Limits) (workers : ℕ) (image : List (Option ℕ)) (list : List (ℕ × Assertion)) (replied : Status)
     (text : List ℕ) (journal : List Event) → IsDecidedOn target limits workers image list replied text journal → TellsNoFault replied
-quiet_on (Msp430 ram) limits workers image list replied text journal is = quiet_decision _ _ workers list replied text journal is
-quiet_on Mcs51 limits workers image list replied text journal is = quiet_decision _ _ workers list replied text journal is
+quiet_on target limits workers image list replied text journal is =
+    let f = family_of target image in quiet_decision f.text_of (f.analysis limits) workers list replied text journal is
 
 -- THE TEXT BEHIND
 

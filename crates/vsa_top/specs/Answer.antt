@@ -16,26 +16,21 @@ use Rattle.run_trace.specs.declared.trace.End.TheVariants as ended
 use Rattle.run_trace.specs.Trace.{Ended}
 use Rattle.report_bytes.specs.Deepest.{deepest_of}
 use Rattle.report_bytes.specs.Report.{are_closed, counts_of, items_of, last_works, report_of_journal, reported_lines}
-use Rattle.mcs51_flow.specs.Standing.{instr_text as mcs51_text}
-use Rattle.mcs51_flow.specs.Chip.{mcs51_analysis}
-use Rattle.msp430_flow.specs.Standing.{instr_text as msp430_text}
-use Rattle.msp430_flow.specs.Chip.{msp430_analysis}
 use Rattle.disassembly.specs.Listing.{IsDisassembly}
 use Rattle.cert_text.specs.Writing.{IsCert}
 use Rattle.cert_verdict.specs.Verdict.{IsVerdict}
 use Rattle.book_rules.specs.Kept.{nodes_of}
 use Rattle.state_text.specs.Texts.{StateTexts}
-use Rattle.mcs51_flow.specs.Texts.{mcs51_texts}
-use Rattle.msp430_flow.specs.Texts.{msp430_texts}
 use Rattle.assert_check.specs.declared.assertion.Assertion.{Assertion}
 use Rattle.item_lines.specs.Line.{item_line_of}
 use Rattle.vsa_top.specs.Asserted.{AreAsserted, IsUnread, broken_in, broken_text, spaces_of, status_of_broken}
+use Rattle.vsa_top.specs.Family.{family_of}
 use Rattle.vsa_top.specs.Input.{InputGives, IsBad, IsTooLong, input_of}
 use Rattle.vsa_top.specs.Scripts.{IsRefused, IsScript, second_limit}
 use Rattle.vsa_top.specs.Summary.{summary}
 use Rattle.vsa_top.specs.Mcs51.{mcs51_reads, mcs51_run}
 use Rattle.vsa_top.specs.Msp430.{msp430_reads, msp430_run}
-use Rattle.vsa_top.specs.Settings.{device_of, mcs51_setting, msp430_setting}
+use Rattle.vsa_top.specs.Settings.{device_of}
 use Rattle.vsa_words.specs.Words.{rules_of, usual_limits, usual_target, tail_of}
 use Rattle.image.specs.declared.chip_name.ChipName.{ChipName}
 use Rattle.vsa_top.specs.declared.outcome.Status.{Status}
@@ -104,10 +99,8 @@ run_under Mcs51 steps image script = mcs51_run image script steps
 
 -- the reply to an image that is analysed: the report of the chip with this image, by so many workers under these limits
 abbrev pub IsAnalysedOn : Target → Limits → (workers : ℕ) → List (Option ℕ) → Status → List ℕ → List Event → Type 0
-IsAnalysedOn (Msp430 ram) limits workers image replied text journal =
-    IsAnalysed msp430_text (msp430_analysis (msp430_setting ram limits image)) workers replied text journal
-IsAnalysedOn Mcs51 limits workers image replied text journal =
-    IsAnalysed mcs51_text (mcs51_analysis (mcs51_setting limits image)) workers replied text journal
+IsAnalysedOn target limits workers image replied text journal =
+    let f = family_of target image in IsAnalysed f.text_of (f.analysis limits) workers replied text journal
 
 -- the text is the report, or the report with the certificate of the book behind it that the journal leads to
 abbrev pub IsFollowed : {A : Type 0} → Analysis A → StateTexts A → (cert : Bool) → List Event → (report text : List ℕ) → Type 0
@@ -124,10 +117,8 @@ pub record IsReported {A : Type 0} (text_of : ℕ → List ℕ → List ℕ) (an
 
 -- that of the chip with this image, by so many workers under these limits
 abbrev pub IsReportedOn : Target → Limits → (workers : ℕ) → (cert : Bool) → List (Option ℕ) → Status → List ℕ → List Event → Type 0
-IsReportedOn (Msp430 ram) limits workers cert image replied text journal =
-    IsReported msp430_text (msp430_analysis (msp430_setting ram limits image)) (msp430_texts (device_of ram image)) workers cert replied text journal
-IsReportedOn Mcs51 limits workers cert image replied text journal =
-    IsReported mcs51_text (mcs51_analysis (mcs51_setting limits image)) mcs51_texts workers cert replied text journal
+IsReportedOn target limits workers cert image replied text journal =
+    let f = family_of target image in IsReported f.text_of (f.analysis limits) f.texts workers cert replied text journal
 
 -- The reply to a program that is analysed under assertions: its report where it leaves a site open, else what it breaks.
 pub data IsDecided {A : Type 0} (text_of : ℕ → List ℕ → List ℕ) (analysis : Analysis A) (workers : ℕ) (list : List (ℕ × Assertion))
@@ -141,10 +132,8 @@ pub data IsDecided {A : Type 0} (text_of : ℕ → List ℕ → List ℕ) (analy
 
 -- that of the chip with this image, by so many workers under these limits
 abbrev pub IsDecidedOn : Target → Limits → (workers : ℕ) → List (Option ℕ) → List (ℕ × Assertion) → Status → List ℕ → List Event → Type 0
-IsDecidedOn (Msp430 ram) limits workers image list replied text journal =
-    IsDecided msp430_text (msp430_analysis (msp430_setting ram limits image)) workers list replied text journal
-IsDecidedOn Mcs51 limits workers image list replied text journal =
-    IsDecided mcs51_text (mcs51_analysis (mcs51_setting limits image)) workers list replied text journal
+IsDecidedOn target limits workers image list replied text journal =
+    let f = family_of target image in IsDecided f.text_of (f.analysis limits) workers list replied text journal
 
 -- The reply to an image with a second text: that to the assertions which stand there, or the first line that is of no
 -- form, or that there is too much.
@@ -177,10 +166,8 @@ pub data IsChecked {A : Type 0} (text_of : ℕ → List ℕ → List ℕ) (analy
 
 -- that of the chip with this image, under these limits
 abbrev pub IsCheckedOn : Target → Limits → List (Option ℕ) → (second : Option (List ℕ)) → Status → List ℕ → Type 0
-IsCheckedOn (Msp430 ram) limits image second replied text =
-    IsChecked msp430_text (msp430_analysis (msp430_setting ram limits image)) (msp430_texts (device_of ram image)) second replied text
-IsCheckedOn Mcs51 limits image second replied text =
-    IsChecked mcs51_text (mcs51_analysis (mcs51_setting limits image)) mcs51_texts second replied text
+IsCheckedOn target limits image second replied text =
+    let f = family_of target image in IsChecked f.text_of (f.analysis limits) f.texts second replied text
 
 -- the summary of the report of the book that a journal leads to
 abbrev pub summary_of_journal : {A : Type 0} → (ℕ → List ℕ → List ℕ) → Analysis A → ChipName → (number : ℕ) → List Event → List ℕ
@@ -189,10 +176,8 @@ summary_of_journal text_of analysis chip number journal = let works = last_works
 
 -- that of the chip with this image, under these limits
 abbrev pub summary_on : Target → Limits → List (Option ℕ) → ChipName → (number : ℕ) → List Event → List ℕ
-summary_on (Msp430 ram) limits image chip number journal =
-    summary_of_journal msp430_text (msp430_analysis (msp430_setting ram limits image)) chip number journal
-summary_on Mcs51 limits image chip number journal =
-    summary_of_journal mcs51_text (mcs51_analysis (mcs51_setting limits image)) chip number journal
+summary_on target limits image chip number journal =
+    let f = family_of target image in summary_of_journal f.text_of (f.analysis limits) chip number journal
 
 -- the reply to a program that one worker analyses as a made one: the summary of its report
 abbrev pub IsSummary : {A : Type 0} → (ℕ → List ℕ → List ℕ) → Analysis A → ChipName → (number : ℕ) → Status → List ℕ → List Event → Type 0

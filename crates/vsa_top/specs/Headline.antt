@@ -7,31 +7,22 @@ use Rattle.text_lines.specs.Lines as texts
 use Rattle.streams.specs.Stream.{appended}
 use Rattle.book_rules.specs.declared.event.Event.{Event}
 use Rattle.report_text.specs.Promise.{CoversEveryRun, ShowsOpenSites}
-use Rattle.mcs51_flow.specs.Chip.{mcs51_analysis}
-use Rattle.mcs51_flow.specs.Machine.{mcs51_machine}
-use Rattle.mcs51_flow.specs.Standing.{instr_text as mcs51_text}
-use Rattle.msp430_flow.specs.Chip.{msp430_analysis}
-use Rattle.msp430_flow.specs.Machine.{msp430_machine}
-use Rattle.msp430_flow.specs.Standing.{instr_text as msp430_text}
 use Rattle.assert_check.specs.Lines.{assertions_of}
 use Rattle.assert_check.specs.declared.assertion.Assertion.{Assertion}
 use Rattle.vsa_top.specs.Asserted.{HoldOn, spaces_of}
+use Rattle.vsa_top.specs.Family.{family_of}
 use Rattle.vsa_top.specs.Input.{Gives}
 use Rattle.vsa_words.specs.declared.reading.Target.{Target}
-use Rattle.vsa_words.specs.declared.reading.Target.TheVariants.{Msp430, Mcs51}
 use Rattle.vsa_words.specs.declared.reading.Task.{Task}
-use Rattle.vsa_top.specs.Settings.{device_of, mcs51_setting, msp430_setting}
 use Rattle.vsa_words.specs.Words.{target_rules}
 
 -- the report covers every run of the chip with this image
 abbrev pub CoversRunsOf : Target → (image : List (Option ℕ)) → (report : List ℕ) → Type 0
-CoversRunsOf (Msp430 ram) image report = CoversEveryRun (msp430_machine (device_of ram image)) msp430_text report
-CoversRunsOf Mcs51 image report = CoversEveryRun (mcs51_machine image) mcs51_text report
+CoversRunsOf target image report = let f = family_of target image in CoversEveryRun f.machine f.text_of report
 
 -- the report shows the open sites of the chip's analysis under these limits, of the book that the journal leads to
 abbrev pub ShowsSitesOf : Target → Limits → (image : List (Option ℕ)) → List Event → (report : List ℕ) → Type 0
-ShowsSitesOf (Msp430 ram) limits image journal report = ShowsOpenSites (msp430_analysis (msp430_setting ram limits image)) journal report
-ShowsSitesOf Mcs51 limits image journal report = ShowsOpenSites (mcs51_analysis (mcs51_setting limits image)) journal report
+ShowsSitesOf target limits image journal report = ShowsOpenSites ((family_of target image).analysis limits) journal report
 
 -- The sink got the report, and nothing behind it but the certificate that was asked for.
 pub record IsFirst (cert : Bool) (before after : Option (List ℕ)) (report : List ℕ) : Type 0 where

@@ -1,8 +1,10 @@
 pub mod Alone
 pub mod Answer
 pub mod Asserted
+pub mod Family
 pub mod Headline
 pub mod Input
+pub mod Laws
 pub mod Mcs51
 pub mod Msp430
 pub mod Own

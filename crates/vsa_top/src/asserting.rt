@@ -1,18 +1,13 @@
 //! What is answered to assertions over a closed report.
 
-ghost use Rattle.std.specs.Prelude.{◌≡◌, ◌≢◌, ◌≤◌, ◌++◌, ℕ, true, List, [], flat_map, IfOk, IfErr, IfSome, OnOk};
+ghost use Rattle.std.specs.Prelude.{◌≡◌, ◌≢◌, ◌≤◌, ◌++◌, ℕ, flat_map, IfOk, IfErr, IfSome, OnOk};
 ghost use Rattle.std.specs.Map.{values_of};
 ghost use Rattle.assert_check.specs.Assertions.{broken_of};
-ghost use Rattle.assert_check.specs.Holding.{Holds};
-ghost use Rattle.assert_check.specs.declared.assertion.Assertion.{Assertion as AnAssertion};
 ghost use Rattle.item_lines.specs.Line.{item_line_of};
 ghost use Rattle.image.specs.Kept.{IsRamRange, IsReadUnder};
-ghost use Rattle.report_bytes.specs.Report.{are_closed, last_works};
-ghost use Rattle.book_rules.specs.Machine.{replay, IsFinished, IsLegalJournal};
-ghost use Rattle.book_rules.specs.declared.event.Event.{Event as AnEvent};
 ghost use Rattle.streams.specs.Stream.{HasRisen};
 ghost use Rattle.vsa_top.specs.Answer.{IsAnalysis, IsAsserted, IsDecided, IsDecidedOn, TellsNoFault};
-ghost use Rattle.vsa_top.specs.Asserted.{AreAsserted, LacksAssertions, broken_in, broken_text, fails_line, spaces_of, status_of_broken};
+ghost use Rattle.vsa_top.specs.Asserted.{AreAsserted, LacksAssertions, broken_text, fails_line, spaces_of, status_of_broken};
 ghost use Rattle.vsa_top.specs.Input.{begun_with};
 ghost use Rattle.vsa_words.specs.Words.{IsBounded, rules_of};
 ghost use Rattle.vsa_words.specs.declared.reading.Reading.TheVariants.{Assert};
@@ -21,11 +16,10 @@ use crate::outcome::Status;
 use crate::reply::{NoReply, Reply, book_of, no_line, text_reply};
 use crate::script::ScriptRefusal;
 use crate::second::assertions_in;
-use assert_check::{Assertion, Broken, decide, unbroken_lists_hold};
+use assert_check::{Assertion, Broken, decide};
 use chip_law::LawfulChip;
 use chip_numbers::Space;
 use closed_book::{ClosedBook, read_closed_with_journal};
-use closing_law::closed_books_cover_runs;
 use dense_text::Text;
 use image::Image;
 use item_lines::{InstrText, put_item};
@@ -241,15 +235,4 @@ pub fn assertion_reply<R: Threads + Wait + Sync, S: Source, G: Gate + Sync>(
         Err(ScriptRefusal::Failed) => Err(NoReply::ReadFault),
         Err(ScriptRefusal::Memory) => Err(NoReply::Memory),
     }
-}
-
-/// Where a finished book without opens breaks no assertion of a list, the list holds of every run.
-pub fn assertions_hold<C: LawfulChip>()
-    ensures { (base : C.Base) (text_of : ℕ → List ℕ → List ℕ) (list : List (ℕ × AnAssertion)) (journal : List AnEvent)
-        → C.program base → IsLegalJournal (C.analysis base) journal → IsFinished (replay (C.analysis base) journal)
-        → are_closed (last_works (C.analysis base) journal) ≡ true
-        → broken_in text_of (C.analysis base) list journal ≡ [] → Holds (C.machine base) list }
-{
-    closed_books_cover_runs::<C>();
-    unbroken_lists_hold::<C>();
 }

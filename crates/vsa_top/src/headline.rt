@@ -1,8 +1,6 @@
 //! What an answer says of every run.
 
-ghost use Rattle.std.specs.Prelude.{◌≡◌, ◌≤◌, ℕ, true, Option, Some, List, ◌⊎◌};
-ghost use Rattle.cert_verdict.specs.Verdict.{IsVerdict};
-ghost use Rattle.report_text.specs.Promise.{CoversEveryRun};
+ghost use Rattle.std.specs.Prelude.{◌≡◌, ◌≤◌, ℕ, Option, Some, List, ◌⊎◌};
 ghost use Rattle.book_rules.specs.declared.event.Event.{Event as AnEvent};
 ghost use Rattle.vsa_top.specs.declared.outcome.Status.TheVariants.{Done, Memory, Open, ReadFault, WriteFault};
 ghost use Rattle.vsa_top.specs.declared.outcome.Status.{Status as AStatus};
@@ -17,24 +15,9 @@ ghost use Rattle.vsa_words.specs.declared.reading.Reading.{Reading as AReading};
 ghost use Rattle.vsa_words.specs.declared.reading.Task.{Task as ATask};
 ghost use Rattle.vsa_top.specs.Headline.{CertifiesOn, CoversRunsOf, HoldsOf, ReportsOn, ShowsSitesOf};
 
-use crate::asserting::assertions_hold;
-use cert_verdict::closed_verdicts_tell_closed_books;
-use chip_law::LawfulChip;
+use crate::laws::families_have_laws;
 use ihex_read::{ended_texts_stay, image_or_fault, images_keep_rules};
 use made_programs::made_texts_denote;
-use mcs51_flow::Mcs51Chip;
-use msp430_flow::Msp430Chip;
-use report_text::{closed_reports_cover_runs, closed_works_cover_runs, open_reports_show_sites};
-use state_text::LawfulText;
-
-/// The report that is told of a certificate's closed table covers every run of the chip, whoever made the certificate.
-fn closed_verdicts_cover_runs<C: LawfulChip + LawfulText>()
-    ensures { (base : C.Base) (text_of : ℕ → List ℕ → List ℕ) (text told : List ℕ) → C.program base
-        → IsVerdict text_of (C.analysis base) (C.texts base) text true told → CoversEveryRun (C.machine base) text_of told }
-{
-    closed_verdicts_tell_closed_books::<C>();
-    closed_works_cover_runs::<C>();
-}
 
 /// A report that is told as closed covers every run, and one that is told as open shows its open sites. Analyses alone are
 /// told as open, with or without assertions. Assertions that are told to hold do so on every run, and the report of a
@@ -69,12 +52,5 @@ pub(crate) fn reports_hold()
     image_or_fault();
     images_keep_rules();
     made_texts_denote();
-    closed_reports_cover_runs::<Msp430Chip>();
-    closed_reports_cover_runs::<Mcs51Chip>();
-    open_reports_show_sites::<Msp430Chip>();
-    open_reports_show_sites::<Mcs51Chip>();
-    assertions_hold::<Msp430Chip>();
-    assertions_hold::<Mcs51Chip>();
-    closed_verdicts_cover_runs::<Msp430Chip>();
-    closed_verdicts_cover_runs::<Mcs51Chip>();
+    families_have_laws();
 }

@@ -7,6 +7,7 @@ mod asserting;
 mod checking;
 mod headline;
 mod input;
+mod laws;
 mod made;
 mod mcs51;
 mod msp430;
