@@ -42,8 +42,9 @@ use Rattle.assert_check.specs.declared.assertion.Assertion.{Assertion}
 use Rattle.assert_check.specs.declared.deciding.Broken.{Broken}
 use Rattle.vsa_top.specs.Asserted.{AreAsserted, HoldOn, broken_in, spaces_of, status_of_broken}
 use Rattle.vsa_top.specs.Family.{family_of}
-use Rattle.vsa_top.specs.Laws.{AreTrueOf, IsGiven}
-use Rattle.vsa_top.specs.Headline.{CertifiesOn, CoversRunsOf, HoldsOf, ReportsOn, ShowsSitesOf}
+use Rattle.vsa_top.specs.Laws.{IsGiven}
+use Rattle.vsa_top.specs.Certified.{IsClosedCertOf}
+use Rattle.vsa_top.specs.Headline.{CertifiesOn, CoversRunsOf, HoldsOf, LeavesOpen, ReportsOn, ShowsSitesOf}
 use Rattle.vsa_top.specs.Input.{text_limit, front_of, input_of, AreTexts, Gives, InputGives, IsBad, IsTooLong, IsImageOf}
 use Rattle.image.specs.declared.chip_name.ChipName.{ChipName}
 use Rattle.image.specs.declared.chip_name.ChipName.TheVariants as chip
@@ -52,6 +53,7 @@ use Rattle.vsa_words.specs.declared.reading.Reading.TheVariants.{Analyse, Assert
 use Rattle.vsa_words.specs.declared.reading.Target.{Target}
 use Rattle.vsa_words.specs.declared.reading.Task.{Task}
 use Rattle.vsa_words.specs.Words.{EndsInMemory, IsBounded, rules_of, target_rules, usual_limits, usual_target, tail_of}
+use Rattle.vsa_top.proofs.LawsLemmas.{HaveTruths}
 use Rattle.vsa_top.proofs.InputLemmas.{front_goes_on}
 
 -- the reply that an answer gives whole
@@ -80,10 +82,6 @@ closed_is false e = absurd (cc)
 open_is : (is_closed : Bool) → Open ≡ status_of_analysis is_closed → is_closed ≡ false
 open_is true e = absurd (cc)
 open_is false e = refl
-
--- what is known of both chips
-abbrev pub HaveTruths : Type 0
-HaveTruths = (target : Target) (limits : Limits) (image : List (Option ℕ)) → IsGiven target limits image → AreTrueOf target limits image
 
 -- what is known of texts
 abbrev pub HaveRules : Type 0
@@ -131,42 +129,17 @@ shows_image truths target limits workers image report journal given is =
     subst (ShowsSitesOf target limits image journal) (sym is.text_is)
     ((truths target limits image given).shows journal made.legal made.finished left)
 
--- THE REPORT IN FRONT
-
--- what was written of an analysis begins with its report
-pub record HasReport (target : Target) (limits : Limits) (workers : ℕ) (cert : Bool) (image : List (Option ℕ)) (answered : Status) (text : List ℕ)
-    (journal : List Event) : Type 0 where
-  pub report : List ℕ
-  pub analysed : IsAnalysedOn target limits workers image answered report journal
-  pub behind : List ℕ
-  pub alone : cert ≡ false → behind ≡ []
-  pub joined : text ≡ report ++ behind
-
-behind_of : {A : Type 0} (analysis : Analysis A) (texts : StateTexts A) (cert : Bool) (journal : List Event) (report text : List ℕ)
-    → IsFollowed analysis texts cert journal report text → (behind : List ℕ) × (cert ≡ false → behind ≡ []) × (text ≡ report ++ behind)
-behind_of analysis texts false journal report text is = ([], (λ e. refl), is ∙ sym (append-nil report))
-behind_of analysis texts true journal report text is = (is.0, (λ e. absurd (cc e)), is.2)
-
-pub has_report : (target : Target) (limits : Limits) (workers : ℕ) (cert : Bool) (image : List (Option ℕ)) (answered : Status) (text : List ℕ)
-    (journal : List Event) → IsReportedOn target limits workers cert image answered text journal
-    → HasReport target limits workers cert image answered text journal
-has_report target limits workers cert image answered text journal is =
-    let f = family_of target image in
-    let b = behind_of (f.analysis limits) f.texts cert journal is.report text is.followed in
-    record { report = is.report; analysed = is.analysed; behind = b.0; alone = b.1; joined = b.2 }
-
 -- the analysis of the image that the text denotes
 analysed : HaveOneImage
     → (task : Task) (input second : Option (List ℕ)) (answered : Status) (written : List ℕ) (journal : List Event) (text : List ℕ)
     (image other : List (Option ℕ)) → InputGives (target_rules task.target) Blank input second other
     → IsReportedOn task.target task.limits task.workers task.cert other answered written journal
     → input ≡ Some text → Denotes (target_rules task.target) Blank (texts.lines_of text) image
-    → HasReport task.target task.limits task.workers task.cert image answered written journal
+    → IsReportedOn task.target task.limits task.workers task.cert image answered written journal
 analysed one task input second answered written journal text image other gives reply e denoted =
     let rules = target_rules task.target in
-    has_report task.target task.limits task.workers task.cert image answered written journal
-    (subst (λ i. IsReportedOn task.target task.limits task.workers task.cert i answered written journal)
-    (same_image one rules input text image other e denoted (gives_image rules input second other gives)) reply)
+    subst (λ i. IsReportedOn task.target task.limits task.workers task.cert i answered written journal)
+    (same_image one rules input text image other e denoted (gives_image rules input second other gives)) reply
 
 -- an image that was read is given
 pub given_image : HaveRules → (task : Task) (text : List ℕ) (image : List (Option ℕ)) → IsRamRange (target_rules task.target)
@@ -180,7 +153,7 @@ closed_reply : HaveTruths → HaveRules → HaveOneImage → (task : Task) → I
     → (input : Option (List ℕ)) (written : List ℕ) (journal : List Event)
     → IsReply (Analyse task) input Done written journal → (text : List ℕ) (image : List (Option ℕ)) → input ≡ Some text
     → Denotes (target_rules task.target) Blank (texts.lines_of text) image
-    → (is : HasReport task.target task.limits task.workers task.cert image Done written journal) × CoversRunsOf task.target image is.report
+    → (is : IsReportedOn task.target task.limits task.workers task.cert image Done written journal) × CoversRunsOf task.target image is.report
 closed_reply truths rules one task range end few input written journal (of_image other second gives reply) text image e denoted =
     let is = analysed one task input second Done written journal text image other gives reply e denoted in
     (is, covers_image truths task.target task.limits task.workers image is.report journal (given_image rules task text image range end few denoted) is.analysed)
@@ -190,12 +163,12 @@ closed_reply truths rules one task range end few input written journal (of_long 
 pub closed_lem : HaveTruths → HaveRules → HaveOneImage
     → (task : Task) (input before after : Option (List ℕ)) (journal : List Event)
     → IsRamRange (target_rules task.target) → EndsInMemory (target_rules task.target) → IsBounded (Analyse task)
-    → Answers (Analyse task) Done input before after journal → ReportsOn task input before after (CoversRunsOf task.target)
+    → Answers (Analyse task) Done input before after journal → ReportsOn task input before after journal (CoversRunsOf task.target)
 closed_lem truths rules one task input before after journal range end few answers text image e denoted =
     let given = gives_reply (Analyse task) Done input before after journal answers ((λ f. cc f), (λ f. cc f)) (λ f. cc f) in
     let told = closed_reply truths rules one task range end few input given.text journal given.reply text image e denoted in (
       told.0.report,
-      record { behind = told.0.behind; alone = told.0.alone; held = given.held ∙ ap (appended before) told.0.joined },
+      record { text = given.text; followed = told.0.followed; held = given.held },
       told.1,
     )
 
@@ -219,9 +192,9 @@ decision_ends task (b ∷ broken) = broke task
 
 decided_ends : {A : Type 0} (text_of : ℕ → List ℕ → List ℕ) (analysis : Analysis A) (task : Task) (workers : ℕ) (list : List (ℕ × Assertion)) (answered : Status)
     (text : List ℕ) (journal : List Event) → IsDecided text_of analysis workers list answered text journal → Ends (Assert task) answered
-decided_ends text_of analysis task workers list answered text journal (reported is left told text_is) =
+decided_ends text_of analysis task workers list answered text journal (reported is bounded left told text_is) =
     subst (Ends (Assert task)) (sym told) (open_under_assertions task)
-decided_ends text_of analysis task workers list answered text journal (decided is none told text_is) =
+decided_ends text_of analysis task workers list answered text journal (decided is bounded none told text_is) =
     subst (Ends (Assert task)) (sym told) (decision_ends task (broken_in text_of analysis list journal))
 
 asserted_ends : (task : Task) (image : List (Option ℕ)) (second : Option (List ℕ)) (answered : Status) (text : List ℕ) (journal : List Event)
@@ -303,7 +276,7 @@ open_reply : HaveTruths → HaveRules → HaveOneImage → (task : Task) → IsR
     → (input : Option (List ℕ)) (written : List ℕ) (journal : List Event)
     → IsReply (Analyse task) input Open written journal → (text : List ℕ) (image : List (Option ℕ)) → input ≡ Some text
     → Denotes (target_rules task.target) Blank (texts.lines_of text) image
-    → (is : HasReport task.target task.limits task.workers task.cert image Open written journal) × ShowsSitesOf task.target task.limits image journal is.report
+    → (is : IsReportedOn task.target task.limits task.workers task.cert image Open written journal) × ShowsSitesOf task.target task.limits image journal is.report
 open_reply truths rules one task range end few input written journal (of_image other second gives reply) text image e denoted =
     let is = analysed one task input second Open written journal text image other gives reply e denoted in
     (is, shows_image truths task.target task.limits task.workers image is.report journal (given_image rules task text image range end few denoted) is.analysed)
@@ -314,12 +287,12 @@ pub open_lem : HaveTruths → HaveRules → HaveOneImage
     → (task : Task) (input before after : Option (List ℕ)) (journal : List Event)
     → IsRamRange (target_rules task.target) → EndsInMemory (target_rules task.target) → IsBounded (Analyse task)
     → Answers (Analyse task) Open input before after journal
-    → ReportsOn task input before after (λ image report. ShowsSitesOf task.target task.limits image journal report)
+    → ReportsOn task input before after journal (λ image report. ShowsSitesOf task.target task.limits image journal report)
 open_lem truths rules one task input before after journal range end few answers text image e denoted =
     let given = gives_reply (Analyse task) Open input before after journal answers ((λ f. cc f), (λ f. cc f)) (λ f. cc f) in
     let told = open_reply truths rules one task range end few input given.text journal given.reply text image e denoted in (
       told.0.report,
-      record { behind = told.0.behind; alone = told.0.alone; held = given.held ∙ ap (appended before) told.0.joined },
+      record { text = given.text; followed = told.0.followed; held = given.held },
       told.1,
     )
 
@@ -332,8 +305,8 @@ none_broken (b ∷ list) e = absurd (cc)
 holds_image : HaveTruths → (target : Target) (limits : Limits) (workers : ℕ) (image : List (Option ℕ)) (list : List (ℕ × Assertion)) (text : List ℕ)
     (journal : List Event) → IsGiven target limits image
     → IsDecidedOn target limits workers image list Done text journal → HoldOn target image list
-holds_image truths target limits workers image list text journal given (reported is left told text_is) = absurd (cc)
-holds_image truths target limits workers image list text journal given (decided is none told text_is) =
+holds_image truths target limits workers image list text journal given (reported is bounded left told text_is) = absurd (cc)
+holds_image truths target limits workers image list text journal given (decided is bounded none told text_is) =
     let f = family_of target image in
     (truths target limits image given).holds list journal is.legal is.finished none
     (none_broken (broken_in f.text_of (f.analysis limits) list journal) told)
@@ -381,6 +354,65 @@ asserted_lem truths rules task input before after journal range end few answers 
     let given = gives_reply (Assert task) Done input before after journal answers ((λ f. cc f), (λ f. cc f)) (λ f. cc f) in
     asserted_reply truths rules task range end few input given.text journal given.reply
 
+-- what is left open under assertions
+not_open : (list : List Broken) → Open ≡ status_of_broken list → ⊥
+not_open [] e = cc
+not_open (b ∷ list) e = cc
+
+shows_decided : HaveTruths → (target : Target) (limits : Limits) (workers : ℕ) (image : List (Option ℕ)) (list : List (ℕ × Assertion)) (text : List ℕ)
+    (journal : List Event) → IsGiven target limits image
+    → IsDecidedOn target limits workers image list Open text journal → ShowsSitesOf target limits image journal text
+shows_decided truths target limits workers image list text journal given (reported is bounded left told text_is) =
+    subst (ShowsSitesOf target limits image journal) (sym text_is) ((truths target limits image given).shows journal is.legal is.finished left)
+shows_decided truths target limits workers image list text journal given (decided is bounded none told text_is) =
+    let f = family_of target image in absurd (not_open (broken_in f.text_of (f.analysis limits) list journal) told)
+
+-- an open report under assertions, with the image and what stands behind it
+pub record IsLeftOpen (task : Task) (text report : List ℕ) (journal : List Event) : Type 0 where
+  pub image : List (Option ℕ)
+  pub second : List ℕ
+  pub gives : Gives (target_rules task.target) Second text image second
+  pub shows : ShowsSitesOf task.target task.limits image journal report
+
+open_image : HaveTruths → HaveRules → (task : Task) → IsRamRange (target_rules task.target)
+    → EndsInMemory (target_rules task.target)
+    → IsBounded (Assert task) → (input second : Option (List ℕ)) (image : List (Option ℕ)) (report : List ℕ) (journal : List Event)
+    → InputGives (target_rules task.target) Second input second image → IsAsserted task image second Open report journal
+    → (text : List ℕ) → input ≡ Some text → IsLeftOpen task text report journal
+open_image truths rules task range end few input second image report journal gives (asserted list read is) text e =
+    let behind = told_second {P = λ t. AreAsserted (spaces_of task.target) t list} (target_rules task.target) input second image text e gives read in
+    let given : IsGiven task.target task.limits image = record {
+      read = rules (target_rules task.target) Second (texts.lines_of behind.1.front) image behind.1.denoted;
+      ram = range;
+      top = end;
+      calls = few.0;
+    } in record {
+      image = image;
+      second = behind.0;
+      gives = behind.1;
+      shows = shows_decided truths task.target task.limits task.workers image list report journal given is;
+    }
+open_image truths rules task range end few input second image report journal gives (unread line is told line_is none) text e = absurd (cc)
+open_image truths rules task range end few input second image report journal gives (overlong is told line_is none) text e = absurd (cc)
+
+open_asserted : HaveTruths → HaveRules → (task : Task) → IsRamRange (target_rules task.target)
+    → EndsInMemory (target_rules task.target)
+    → IsBounded (Assert task) → (input : Option (List ℕ)) (report : List ℕ) (journal : List Event)
+    → IsReply (Assert task) input Open report journal
+    → (text : List ℕ) → input ≡ Some text → IsLeftOpen task text report journal
+open_asserted truths rules task range end few input report journal (of_image image second gives reply) text e =
+    open_image truths rules task range end few input second image report journal gives reply text e
+open_asserted truths rules task range end few input report journal (of_bad line fault bad is line_is none) text e = absurd (cc)
+open_asserted truths rules task range end few input report journal (of_long long is line_is none) text e = absurd (cc)
+
+pub left_open_lem : HaveTruths → HaveRules → (task : Task) (input before after : Option (List ℕ)) (journal : List Event)
+    → IsRamRange (target_rules task.target) → EndsInMemory (target_rules task.target) → IsBounded (Assert task)
+    → Answers (Assert task) Open input before after journal → LeavesOpen task input before after journal
+left_open_lem truths rules task input before after journal range end few answers text e =
+    let given = gives_reply (Assert task) Open input before after journal answers ((λ f. cc f), (λ f. cc f)) (λ f. cc f) in
+    let is = open_asserted truths rules task range end few input given.text journal given.reply text e in
+    (is.image, is.second, given.text, is.gives, given.held, is.shows)
+
 -- CERTIFICATES
 
 done_closed : (is_closed : Bool) → Done ≡ status_of_verdict is_closed → is_closed ≡ true
@@ -388,7 +420,7 @@ done_closed true e = refl
 done_closed false e = absurd (cc)
 
 -- the verdict that Done tells
-abbrev IsClosedVerdict : {A : Type 0} → (text_of : ℕ → List ℕ → List ℕ) → Analysis A → StateTexts A
+abbrev pub IsClosedVerdict : {A : Type 0} → (text_of : ℕ → List ℕ → List ℕ) → Analysis A → StateTexts A
     → (second : Option (List ℕ)) → (report : List ℕ) → Type 0
 IsClosedVerdict text_of analysis texts second report = IfSome second (λ t. IsVerdict text_of analysis texts t true report)
 
@@ -398,7 +430,7 @@ verdict_of : {A : Type 0} (text_of : ℕ → List ℕ → List ℕ) (analysis : 
 verdict_of text_of analysis texts None is_closed report same is = tt
 verdict_of text_of analysis texts (Some t) is_closed report same is = subst (λ c. IsVerdict text_of analysis texts t c report) same is.verdict
 
-closed_verdict : {A : Type 0} (text_of : ℕ → List ℕ → List ℕ) (analysis : Analysis A) (texts : StateTexts A) (second : Option (List ℕ)) (report : List ℕ)
+pub closed_verdict : {A : Type 0} (text_of : ℕ → List ℕ → List ℕ) (analysis : Analysis A) (texts : StateTexts A) (second : Option (List ℕ)) (report : List ℕ)
     → IsChecked text_of analysis texts second Done report → IsClosedVerdict text_of analysis texts second report
 closed_verdict text_of analysis texts second report (judged is_closed is told) =
     verdict_of text_of analysis texts second is_closed report (done_closed is_closed told) is
@@ -409,24 +441,27 @@ certified_image : HaveTruths
     (report text : List ℕ) → input ≡ Some text → InputGives (target_rules target) Second input second image
     → ((behind : List ℕ) → Gives (target_rules target) Second text image behind → IsGiven target limits image)
     → IsCheckedOn target limits image second Done report
-    → (behind : List ℕ) × Gives (target_rules target) Second text image behind × CoversRunsOf target image report
+    → (behind : List ℕ) × Gives (target_rules target) Second text image behind × IsClosedCertOf target limits image behind
+    × CoversRunsOf target image report
 certified_image truths target limits image input second report text e gives given is =
     let f = family_of target image in
     let told = told_second {P = λ t. IsVerdict f.text_of (f.analysis limits) f.texts t true report} (target_rules target) input second image text e
     gives (closed_verdict f.text_of (f.analysis limits) f.texts second report is) in
-    (told.0, told.1, (truths target limits image (given told.0 told.1)).certifies told.0 report told.2)
+    let true_of = truths target limits image (given told.0 told.1) in
+    (told.0, told.1, true_of.closes told.0 report told.2, true_of.certifies told.0 report told.2)
 
 -- the image of a certificate whose table is closed, with what stands behind it
-pub record IsCertified (target : Target) (text report : List ℕ) : Type 0 where
+pub record IsCertified (target : Target) (limits : Limits) (text report : List ℕ) : Type 0 where
   pub image : List (Option ℕ)
   pub second : List ℕ
   pub gives : Gives (target_rules target) Second text image second
+  pub closed : IsClosedCertOf target limits image second
   pub covers : CoversRunsOf target image report
 
 certified_reply : HaveTruths → HaveRules → (task : Task) → IsRamRange (target_rules task.target)
     → EndsInMemory (target_rules task.target) → IsBounded (Check task)
     → (input : Option (List ℕ)) (report : List ℕ) (journal : List Event) (text : List ℕ)
-    → input ≡ Some text → IsReply (Check task) input Done report journal → IsCertified task.target text report
+    → input ≡ Some text → IsReply (Check task) input Done report journal → IsCertified task.target task.limits text report
 certified_reply truths rules task range end few input report journal text e (of_image image second gives reply) =
     let read : (behind : List ℕ) → Gives (target_rules task.target) Second text image behind → IsGiven task.target task.limits image
     = λ behind is. record {
@@ -436,17 +471,17 @@ certified_reply truths rules task range end few input report journal text e (of_
       calls = few.0;
     } in
     let is = certified_image truths task.target task.limits image input second report text e gives read reply.0 in
-    record { image = image; second = is.0; gives = is.1; covers = is.2 }
+    record { image = image; second = is.0; gives = is.1; closed = is.2; covers = is.3 }
 certified_reply truths rules task range end few input report journal text e (of_bad line fault bad is line_is none) = absurd (cc)
 certified_reply truths rules task range end few input report journal text e (of_long long is line_is none) = absurd (cc)
 
 pub certified_lem : HaveTruths → HaveRules → (task : Task) (input before after : Option (List ℕ)) (journal : List Event)
     → IsRamRange (target_rules task.target) → EndsInMemory (target_rules task.target) → IsBounded (Check task)
-    → Answers (Check task) Done input before after journal → CertifiesOn task.target input before after
+    → Answers (Check task) Done input before after journal → CertifiesOn task input before after
 certified_lem truths rules task input before after journal range end few answers text e =
     let given = gives_reply (Check task) Done input before after journal answers ((λ f. cc f), (λ f. cc f)) (λ f. cc f) in
     let is = certified_reply truths rules task range end few input given.text journal text e given.reply in
-    (is.image, is.second, given.text, is.gives, given.held, is.covers)
+    (is.image, is.second, given.text, is.gives, given.held, (is.closed, is.covers))
 
 abbrev pub HaveNotBoth : Type 0
 HaveNotBoth = (rules : Rules) (tail : Tail) (lines : List (List ℕ)) (image : List (Option ℕ)) (line : ℕ) (fault : HexFault)

@@ -26,8 +26,9 @@ use Rattle.vsa_top.specs.declared.outcome.Status.TheVariants.{Done, Memory}
 use Rattle.vsa_words.specs.declared.reading.Reading.TheVariants.{Analyse, Check}
 use Rattle.vsa_words.specs.declared.reading.Target.{Target}
 use Rattle.vsa_words.specs.declared.reading.Task.{Task}
-use Rattle.vsa_top.proofs.AloneLemmas.{HaveOnes}
-use Rattle.vsa_top.proofs.HeadlineLemmas.{HaveOneImage, HaveRules, HaveTruths, closed_is, covers_image, given_image, gives_image, gives_reply, has_report, same_image}
+use Rattle.vsa_top.proofs.CheckedLemmas.{given_before, told_by}
+use Rattle.vsa_top.proofs.LawsLemmas.{HaveOnes, HaveTruths}
+use Rattle.vsa_top.proofs.HeadlineLemmas.{HaveOneImage, HaveRules, closed_is, covers_image, given_image, gives_image, gives_reply, same_image}
 
 -- WHAT AN ANALYSIS WRITES
 
@@ -67,9 +68,8 @@ written_reply one task input written journal asked (of_long long is line_is none
 own_covers : HaveTruths → (target : Target) (limits : Limits) (image : List (Option ℕ)) (report certificate : List ℕ)
     → IsGiven target limits image → IsOwn target limits image report certificate → CoversRunsOf target image report
 own_covers truths target limits image report certificate given own =
-    let is = has_report target limits own.workers false image Done report own.journal own.reported in
-    let alone : report ≡ is.report = is.joined ∙ ap (λ behind. is.report ++ behind) (is.alone refl) ∙ append-nil is.report in
-    subst (CoversRunsOf target image) (sym alone)
+    let is = own.reported in
+    subst (CoversRunsOf target image) (sym is.followed)
     (covers_image truths target limits own.workers image is.report own.journal given is.analysed)
 
 pub written_lem : HaveTruths → HaveRules → HaveOneImage
@@ -104,14 +104,6 @@ module _ (truths : HaveTruths) (ones : HaveOnes) (target : Target) (limits : Lim
       (subst (λ r. IsVerdict f.text_of a f.texts text true r) (sym first)
       ((truths target limits image given).owns journal text made.legal closed cert))
 
-  own_checked : (answered : Status) (told : List ℕ) → IsGiven target limits image → IsOwn target limits image report certificate
-      → length certificate ≤ second_limit → IsCheckedOn target limits image (Some certificate) answered told
-      → (answered ≡ Done) × (told ≡ report)
-  own_checked answered told given own fits (judged closed is status_is) =
-      let same = (ones target limits image).verdict certificate closed true told report is.verdict (own_verdict given own) in
-      (status_is ∙ ap status_of_verdict same.0, same.1)
-  own_checked answered told given own fits (lengthy longer status_is line_is) = absurd (omega (arith, fits, longer))
-
 pub accepted_lem : HaveTruths → HaveOnes → HaveRules → (task : Task) (answered : Status) (before after : Option (List ℕ))
     (text report certificate : List ℕ) (image : List (Option ℕ)) → IsRamRange (target_rules task.target) → EndsInMemory (target_rules task.target)
     → IsBounded (Check task) → Gives (target_rules task.target) Second text image certificate
@@ -120,11 +112,7 @@ pub accepted_lem : HaveTruths → HaveOnes → HaveRules → (task : Task) (answ
     → TellsReport answered before after report ⊎ (answered ≡ Memory)
 accepted_lem truths ones rules task answered before after text report certificate image range end few gives own fits (inr memory) = inr memory
 accepted_lem truths ones rules task answered before after text report certificate image range end few gives own fits (inl verdict) =
-    let given : IsGiven task.target task.limits image = record {
-      read = rules (target_rules task.target) Second (texts.lines_of gives.front) image gives.denoted;
-      ram = range;
-      top = end;
-      calls = few.0;
-    } in
-    let same = own_checked truths ones task.target task.limits image report certificate answered verdict.told given own fits verdict.checked in
+    let given = given_before rules task text certificate image range end few gives in
+    let own_is = own_verdict truths ones task.target task.limits image report certificate given own in
+    let same = told_by ones task.target task.limits image certificate report answered verdict.told own_is fits verdict.checked in
     inl (same.0, verdict.written ∙ ap (appended before) same.1)

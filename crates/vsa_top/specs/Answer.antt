@@ -123,9 +123,9 @@ IsReportedOn target limits workers cert image replied text journal =
 -- The reply to a program that is analysed under assertions: its report where it leaves a site open, else what it breaks.
 pub data IsDecided {A : Type 0} (text_of : ℕ → List ℕ → List ℕ) (analysis : Analysis A) (workers : ℕ) (list : List (ℕ × Assertion))
     (replied : Status) (text : List ℕ) (journal : List Event) : Type 0 where
-  reported : IsAnalysis analysis workers journal → are_closed (last_works analysis journal) ≡ false → replied ≡ status.Open
-      → text ≡ report_of_journal text_of analysis journal → IsDecided text_of analysis workers list replied text journal
-  decided : IsAnalysis analysis workers journal → are_closed (last_works analysis journal) ≡ true
+  reported : IsAnalysis analysis workers journal → AreBounded analysis journal → are_closed (last_works analysis journal) ≡ false
+      → replied ≡ status.Open → text ≡ report_of_journal text_of analysis journal → IsDecided text_of analysis workers list replied text journal
+  decided : IsAnalysis analysis workers journal → AreBounded analysis journal → are_closed (last_works analysis journal) ≡ true
       → replied ≡ status_of_broken (broken_in text_of analysis list journal)
       → text ≡ broken_text (item_line_of text_of) (broken_in text_of analysis list journal)
       → IsDecided text_of analysis workers list replied text journal

@@ -16,6 +16,7 @@ use Rattle.report_bytes.specs.Report.{are_closed, last_works, report_of_journal}
 use Rattle.report_text.specs.Promise.{CoversEveryRun, ShowsOpenSites}
 use Rattle.state_text.specs.Texts.{StateTexts}
 use Rattle.vsa_top.specs.Asserted.{broken_in}
+use Rattle.vsa_top.specs.Certified.{IsClosedCert}
 use Rattle.vsa_top.specs.Family.{family_of}
 use Rattle.vsa_words.specs.Words.{EndsInMemory, target_rules}
 use Rattle.vsa_words.specs.declared.reading.Target.{Target}
@@ -45,6 +46,9 @@ pub record AreTrue {S A : Type 0} (machine : Machine S) (analysis : Analysis A) 
       → broken_in text_of analysis list journal ≡ [] → Holds machine list
   -- the report that is told of a certificate's closed table covers every run
   pub certifies : (text told : List ℕ) → IsVerdict text_of analysis texts text true told → CoversEveryRun machine text_of told
+  -- a text has such a verdict exactly where it is the certificate of a closed table
+  pub closes : (text told : List ℕ) → IsVerdict text_of analysis texts text true told → IsClosedCert analysis texts text
+  pub accepts : (text : List ℕ) → IsClosedCert analysis texts text → (told : List ℕ) × IsVerdict text_of analysis texts text true told
   -- the certificate of a closed book has the book's own report as its verdict
   pub owns : (journal : List Event) (text : List ℕ) → IsLegalJournal analysis journal → IsClosed (replay analysis journal)
       → IsCert analysis texts (nodes_of (replay analysis journal)) text

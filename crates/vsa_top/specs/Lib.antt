@@ -1,6 +1,7 @@
 pub mod Alone
 pub mod Answer
 pub mod Asserted
+pub mod Certified
 pub mod Family
 pub mod Headline
 pub mod Input

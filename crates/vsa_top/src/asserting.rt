@@ -19,7 +19,7 @@ use crate::second::assertions_in;
 use assert_check::{Assertion, Broken, decide};
 use chip_law::LawfulChip;
 use chip_numbers::Space;
-use closed_book::{ClosedBook, read_closed_with_journal};
+use closed_book::{ClosedBook, books_are_bounded, read_closed_with_journal};
 use dense_text::Text;
 use image::Image;
 use item_lines::{InstrText, put_item};
@@ -112,6 +112,7 @@ fn decided<C: LawfulChip + InstrText>(
         → IsDecided (C.text_of chip.now) (C.analysis (C.base chip.now)) workers list.now reply.status reply.text reply.journal.items) }
 {
     closed_books_are_told::<C>();
+    books_are_bounded::<C>();
     match read_closed_with_journal(book) {
         Ok((closed, journal)) => decision(alloc, chip, &closed, journal, list),
         Err(book) => {

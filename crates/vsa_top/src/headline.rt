@@ -1,6 +1,6 @@
 //! What an answer says of every run.
 
-ghost use Rattle.std.specs.Prelude.{◌≡◌, ◌≤◌, ℕ, Option, Some, List, ◌⊎◌};
+ghost use Rattle.std.specs.Prelude.{◌≡◌, ◌≤◌, ℕ, Option, Some, List, length, ◌⊎◌, ◌↔◌};
 ghost use Rattle.book_rules.specs.declared.event.Event.{Event as AnEvent};
 ghost use Rattle.vsa_top.specs.declared.outcome.Status.TheVariants.{Done, Memory, Open, ReadFault, WriteFault};
 ghost use Rattle.vsa_top.specs.declared.outcome.Status.{Status as AStatus};
@@ -13,7 +13,9 @@ ghost use Rattle.image.specs.declared.chip_name.ChipName.{ChipName as AChip};
 ghost use Rattle.vsa_words.specs.declared.reading.Reading.TheVariants.{Analyse, Assert, Check, Gen};
 ghost use Rattle.vsa_words.specs.declared.reading.Reading.{Reading as AReading};
 ghost use Rattle.vsa_words.specs.declared.reading.Task.{Task as ATask};
-ghost use Rattle.vsa_top.specs.Headline.{CertifiesOn, CoversRunsOf, HoldsOf, ReportsOn, ShowsSitesOf};
+ghost use Rattle.vsa_top.specs.Certified.{IsClosedCertOf};
+ghost use Rattle.vsa_top.specs.Scripts.{second_limit};
+ghost use Rattle.vsa_top.specs.Headline.{CertifiesOn, CoversRunsOf, HoldsOf, LeavesOpen, ReportsOn, ShowsSitesOf};
 
 use crate::laws::families_have_laws;
 use ihex_read::{ended_texts_stay, image_or_fault, images_keep_rules};
@@ -26,21 +28,31 @@ use made_programs::made_texts_denote;
 pub(crate) fn reports_hold()
     ensures closed { (task : ATask) (input before after : Option (List ℕ)) (journal : List AnEvent)
         → IsRamRange (rules_of (Analyse task)) → EndsInMemory (rules_of (Analyse task)) → IsBounded (Analyse task) → Answers (Analyse task) Done input before after journal →
-        ReportsOn task input before after (CoversRunsOf task.target) }
+        ReportsOn task input before after journal (CoversRunsOf task.target) }
     ensures open { (task : ATask) (input before after : Option (List ℕ)) (journal : List AnEvent)
         → IsRamRange (rules_of (Analyse task)) → EndsInMemory (rules_of (Analyse task)) → IsBounded (Analyse task) → Answers (Analyse task) Open input before after journal →
-        ReportsOn task input before after (λ image report. ShowsSitesOf task.target task.limits image journal report) }
+        ReportsOn task input before after journal (λ image report. ShowsSitesOf task.target task.limits image journal report) }
     ensures open_alone { (reading : AReading) (input before after : Option (List ℕ)) (journal : List AnEvent)
         → Answers reading Open input before after journal → Analyses reading }
     ensures asserted { (task : ATask) (input before after : Option (List ℕ)) (journal : List AnEvent)
         → IsRamRange (rules_of (Assert task)) → EndsInMemory (rules_of (Assert task)) → IsBounded (Assert task)
         → Answers (Assert task) Done input before after journal → HoldsOf task.target input }
+    ensures left_open { (task : ATask) (input before after : Option (List ℕ)) (journal : List AnEvent)
+        → IsRamRange (rules_of (Assert task)) → EndsInMemory (rules_of (Assert task)) → IsBounded (Assert task)
+        → Answers (Assert task) Open input before after journal → LeavesOpen task input before after journal }
     ensures certified { (task : ATask) (input before after : Option (List ℕ)) (journal : List AnEvent)
         → IsRamRange (rules_of (Check task)) → EndsInMemory (rules_of (Check task)) → IsBounded (Check task)
-        → Answers (Check task) Done input before after journal → CertifiesOn task.target input before after }
+        → Answers (Check task) Done input before after journal → CertifiesOn task input before after }
     ensures verdict { (task : ATask) (answered : AStatus) (input before after : Option (List ℕ)) (journal : List AnEvent) (text certificate : List ℕ) (image : List (Option ℕ))
         → Answers (Check task) answered input before after journal → input ≡ Some text → Gives (rules_of (Check task)) Second text image certificate
         → ¬ (answered ≡ ReadFault) → ¬ (answered ≡ WriteFault) → IsVerdictOn task image certificate answered before after ⊎ (answered ≡ Memory) }
+    ensures exact { (task : ATask) (answered : AStatus) (input before after : Option (List ℕ)) (journal : List AnEvent)
+        (text certificate : List ℕ) (image : List (Option ℕ))
+        → IsRamRange (rules_of (Check task)) → EndsInMemory (rules_of (Check task)) → IsBounded (Check task)
+        → Answers (Check task) answered input before after journal → input ≡ Some text
+        → Gives (rules_of (Check task)) Second text image certificate → length certificate ≤ second_limit
+        → ¬ (answered ≡ ReadFault) → ¬ (answered ≡ WriteFault)
+        → ((answered ≡ Done) ↔ IsClosedCertOf task.target task.limits image certificate) ⊎ (answered ≡ Memory) }
     ensures complete { (reading : AReading) (answered : AStatus) (input before after : Option (List ℕ)) (journal : List AnEvent) (text : List ℕ) (image : List (Option ℕ)) (second : List ℕ)
         → Answers reading answered input before after journal → input_of reading input ≡ Some text → Gives (rules_of reading) (tail_of reading) text image second
         → ¬ (answered ≡ ReadFault) → ¬ (answered ≡ WriteFault) → Ends reading answered ⊎ (answered ≡ Memory) }

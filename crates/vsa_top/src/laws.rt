@@ -7,9 +7,10 @@ ghost use Rattle.vsa_top.specs.Laws.{AreOne, AreOneOf, AreTrue, AreTrueOf, IsGiv
 ghost use Rattle.vsa_words.specs.declared.reading.Target.{Target};
 
 use assert_check::unbroken_lists_hold;
-use cert_text::certificates_are_one;
+use cert_text::{certificates_are_one, certificates_are_tables};
 use cert_verdict::{
-    closed_verdicts_tell_closed_books, own_certificates_are_closed, verdicts_are_one,
+    closed_tables_have_their_report, closed_verdicts_tell_closed_books,
+    own_certificates_are_closed, verdicts_are_one,
 };
 use chip_law::LawfulChip;
 use closing_law::closed_books_cover_runs;
@@ -33,6 +34,8 @@ fn chips_have_laws<C: LawfulChip + LawfulText>()
     unbroken_lists_hold::<C>();
     closed_verdicts_tell_closed_books::<C>();
     closed_works_cover_runs::<C>();
+    certificates_are_tables::<C>();
+    closed_tables_have_their_report::<C>();
     own_certificates_are_closed::<C>();
     closed_books_are_told::<C>();
     turns_are_one::<C>();

@@ -1,5 +1,5 @@
-use Rattle.vsa_top.proofs.CheckedLemmas.{verdict_lem}
-use Rattle.vsa_top.proofs.HeadlineLemmas.{asserted_lem, certified_lem, closed_lem, open_lem, open_alone_lem, complete_lem, made_lem}
+use Rattle.vsa_top.proofs.CheckedLemmas.{exact_lem, verdict_lem}
+use Rattle.vsa_top.proofs.HeadlineLemmas.{asserted_lem, certified_lem, closed_lem, open_lem, left_open_lem, open_alone_lem, complete_lem, made_lem}
 use Rattle.vsa_top.proofs.headline.reports_hold.Goals as goal
 
 pub returns-clause-closed : goal.returns-clause-closed
@@ -28,3 +28,11 @@ returns-clause-certified c = certified_lem c.families_have_laws.ensures.truths c
 pub returns-clause-verdict : goal.returns-clause-verdict
 returns-clause-verdict c =
     verdict_lem c.image_or_fault.ensures.not_both c.ended_texts_stay.ensures.ended c.ended_texts_stay.ensures.faultless c.image_or_fault.ensures.one_image
+
+pub returns-clause-left_open : goal.returns-clause-left_open
+returns-clause-left_open c = left_open_lem c.families_have_laws.ensures.truths c.images_keep_rules.ensures
+
+pub returns-clause-exact : goal.returns-clause-exact
+returns-clause-exact c =
+    exact_lem c.families_have_laws.ensures.truths c.families_have_laws.ensures.one c.images_keep_rules.ensures
+    c.image_or_fault.ensures.not_both c.ended_texts_stay.ensures.ended c.ended_texts_stay.ensures.faultless c.image_or_fault.ensures.one_image

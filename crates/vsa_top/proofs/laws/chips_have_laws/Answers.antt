@@ -3,6 +3,7 @@ use Rattle.item_lines.specs.Line.{item_line_of}
 use Rattle.report_bytes.specs.ClosedWorks.{none_open}
 use Rattle.report_bytes.specs.Report.{last_works}
 use Rattle.report_text.specs.Promise.{CoversEveryRun}
+use Rattle.vsa_top.proofs.LawsLemmas.{closes_by}
 use Rattle.vsa_top.proofs.laws.chips_have_laws.Goals as goal
 
 pub returns-clause-truths : goal.returns-clause-truths
@@ -16,6 +17,12 @@ returns-clause-truths g c = λ base text_of program stack.
       certifies = λ text told verdict.
           let is = c.closed_verdicts_tell_closed_books.ensures base text_of text told verdict in
           subst (CoversEveryRun machine text_of) (sym is.report) (c.closed_works_cover_runs.ensures base text_of is.nodes is.works program is.book);
+      closes = λ text told. closes_by text_of (g.C.Chip.analysis base) (g.C.StateText.texts base) text told (c.certificates_are_tables.ensures base program text);
+      accepts = λ text is.
+          let table = (c.certificates_are_tables.ensures base program text is.rows).1 (is.formed, is.written) in (
+            _,
+            c.closed_tables_have_their_report.ensures base program text_of text is.rows table is.closed,
+          );
       owns = λ journal text. c.own_certificates_are_closed.ensures base program text_of journal text stack;
     }
 
