@@ -17,7 +17,7 @@ use Rattle.vsa_words.specs.declared.reading.Reading.{Reading}
 use Rattle.vsa_words.specs.declared.reading.Target.{Target}
 use Rattle.vsa_top.specs.Alone.{IsOneReply, TellsAnalysis, WorksAlone}
 use Rattle.vsa_top.specs.Alone.WorksAlone.{of_input, of_asserted, of_made}
-use Rattle.vsa_top.specs.Answer.{Answers, IsAnalysis, IsAsserted, IsDecided, IsDecidedOn, IsAnalysed, IsAnalysedOn, IsFollowed, IsImageReply, IsReply, IsReported, IsReportedOn, TellsNoFault, status_of_analysis, summary_on}
+use Rattle.vsa_top.specs.Answer.{Answers, IsAnalysis, IsDecided, IsAnalysed, IsAnalysedOn, IsFollowed, IsImageReply, IsReply, IsReported, IsReportedOn, TellsNoFault, status_of_analysis, summary_of_journal}
 use Rattle.vsa_top.specs.Answer.IsReply.{of_image, of_bad, of_long}
 use Rattle.vsa_top.specs.Input.{InputGives, input_of}
 use Rattle.vsa_top.specs.Family.{family_of}
@@ -31,10 +31,10 @@ use Rattle.std.specs.Prelude.{IfSome}
 use Rattle.vsa_words.specs.declared.reading.Task.{Task}
 use Rattle.vsa_top.specs.Answer.IsAsserted.{asserted, unread, overlong}
 use Rattle.vsa_top.specs.Answer.IsDecided.{reported, decided}
-use Rattle.vsa_words.specs.Words.{rules_of, usual_limits, usual_target, usual_task, tail_of}
+use Rattle.vsa_words.specs.Words.{rules_of, usual_task, tail_of}
 use Rattle.vsa_top.proofs.CheckedLemmas.{one_pair}
 use Rattle.vsa_top.proofs.LawsLemmas.{HaveOnes}
-use Rattle.vsa_top.proofs.HeadlineLemmas.{HaveOneImage, gives_reply}
+use Rattle.vsa_top.proofs.HeadlineLemmas.{HaveOneImage, IsAssertedOn, IsDecidedOn, gives_reply}
 
 -- two replies are the same
 abbrev AreSame : Status → List ℕ → List Event → Status → List ℕ → List Event → Type 0
@@ -163,7 +163,7 @@ asserted_same : HaveOnes → (task : Task) → task.workers ≡ 1 → (image : L
     → second ≡ Some behind
     → (other : Status) (report : List ℕ) (events : List Event) (answered : Status) (text : List ℕ) (journal : List Event)
     → TellsAnalysis other → TellsAnalysis answered
-    → IsAsserted task image second other report events → IsAsserted task image second answered text journal
+    → IsAssertedOn task image second other report events → IsAssertedOn task image second answered text journal
     → AreSame other report events answered text journal
 asserted_same ones task alone image second behind e other report events answered text journal tells told (asserted list read that) (asserted also read_so this) =
     let f = family_of task.target image in
@@ -193,11 +193,12 @@ image_same ones reading image second behind e (of_asserted task alone) other rep
     asserted_same ones task alone image second behind e other report events answered text journal tells told that this
 image_same ones reading image second behind e (of_made chip number) other report events answered text journal tells told that this =
     let task = usual_task chip in
+    let f = family_of task.target image in
     let (whole, is, sum) = that in
     let (whole_so, is_so, sum_so) = this in
     let (status_is, report_is, journal_is) = on_same ones task.target task.limits task.workers image refl
     other whole events answered whole_so journal is is_so in
-    (status_is, sum ∙ ap (summary_on (usual_target chip) usual_limits image chip number) journal_is ∙ sym sum_so, journal_is)
+    (status_is, sum ∙ ap (summary_of_journal f.text_of (f.analysis task.limits) chip number) journal_is ∙ sym sum_so, journal_is)
 
 -- the image and the second text that a text gives are one
 one_given : HaveOneImage → (rules : Rules) (tail : Tail) (text : List ℕ) (second behind : Option (List ℕ)) (image other : List (Option ℕ))

@@ -20,7 +20,7 @@ use Rattle.book_rules.specs.Kept.{live_pairs}
 use Rattle.book_rules.specs.Machine.{replay, IsClosed}
 use Rattle.book_rules.specs.declared.event.Event.{Event}
 use Rattle.streams.specs.Stream.{IsAtEnd}
-use Rattle.vsa_top.specs.Answer.{IsAnalysis, IsDecided, IsDecidedOn, TellsNoFault}
+use Rattle.vsa_top.specs.Answer.{IsAnalysis, IsDecided}
 use Rattle.vsa_top.specs.Answer.IsDecided.{decided, reported}
 use Rattle.vsa_top.specs.Family.{family_of}
 use Rattle.vsa_top.specs.Asserted.{LacksAssertions, broken_in, broken_text, refusal_of, status_of_broken, unread_of}
@@ -62,23 +62,6 @@ reported_by text_of m workers list journal told report is_closed is bounded open
     ] in
     subst (IsDecided text_of m workers list status.Open report) (sym journal_is)
     (reported is bounded left refl (reported_is.bytes ∙ ap (λ f. report_of text_of f (last_works m journal)) finished))
-
--- the statuses of decisions tell no fault
-quiet_status : (broken : List _) → TellsNoFault (status_of_broken broken)
-quiet_status [] = ((λ e. cc e), (λ e. cc e))
-quiet_status (b ∷ broken) = ((λ e. cc e), (λ e. cc e))
-
-quiet_decision : {A : Type 0} (text_of : ℕ → List ℕ → List ℕ) (m : Analysis A) (workers : ℕ) (list : List (ℕ × Assertion)) (replied : Status)
-    (text : List ℕ) (journal : List Event) → IsDecided text_of m workers list replied text journal → TellsNoFault replied
-quiet_decision text_of m workers list replied text journal (reported is bounded left told text_is) =
-    subst TellsNoFault (sym told) ((λ e. cc e), (λ e. cc e))
-quiet_decision text_of m workers list replied text journal (decided is bounded closed told text_is) =
-    subst TellsNoFault (sym told) (quiet_status (broken_in text_of m list journal))
-
-pub quiet_on : (target : Target) (limits : Limits) (workers : ℕ) (image : List (Option ℕ)) (list : List (ℕ × Assertion)) (replied : Status)
-    (text : List ℕ) (journal : List Event) → IsDecidedOn target limits workers image list replied text journal → TellsNoFault replied
-quiet_on target limits workers image list replied text journal is =
-    let f = family_of target image in quiet_decision f.text_of (f.analysis limits) workers list replied text journal is
 
 -- THE TEXT BEHIND
 

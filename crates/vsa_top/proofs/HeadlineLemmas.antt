@@ -24,7 +24,7 @@ use Rattle.run_trace.specs.Trace.{Ended}
 use Rattle.report_bytes.specs.Report.{are_closed, last_works}
 use Rattle.vsa_top.specs.declared.outcome.Status.{Status}
 use Rattle.vsa_top.specs.declared.outcome.Status.TheVariants.{Done, Open, ReadFault, WriteFault, Memory}
-use Rattle.vsa_top.specs.Answer.{Analyses, Answers, Ends, IsAnalysedOn, IsAsserted, IsFollowed, IsReportedOn, IsChecked, IsCheckedOn, IsDecided, IsDecidedOn, IsImageReply, IsReply, IsRun, IsJudged, TellsNoFault, run_under, status_of_analysis, status_of_end, status_of_verdict}
+use Rattle.vsa_top.specs.Answer.{Analyses, Answers, Ends, IsAnalysedOn, IsFollowed, IsReportedOn, IsChecked, IsCheckedOn, IsAsserted, IsDecided, IsImageReply, IsReply, IsRun, IsJudged, TellsNoFault, run_under, status_of_analysis, status_of_end, status_of_verdict}
 use Rattle.vsa_top.specs.Answer.Analyses.{of_input, of_asserted, of_made}
 use Rattle.vsa_top.specs.Answer.Answers.{replied, unreplied}
 use Rattle.vsa_top.specs.Answer.Ends.{closed, left_open, disassembled, ran_on, went_wild, lacked_a_choice, refused_script, script_too_long, summed, summed_open}
@@ -105,6 +105,15 @@ pub gives_image : (rules : Rules) (input second : Option (List ℕ)) (image : Li
     → IfSome input (λ t. IsImageOf rules t image)
 gives_image rules None second image gives = tt
 gives_image rules (Some text) second image gives = gives.2.0
+
+-- the reply to assertions of a chip with an image
+abbrev pub IsAssertedOn : (task : Task) → List (Option ℕ) → (second : Option (List ℕ)) → Status → List ℕ → List Event → Type 0
+IsAssertedOn task image second answered text journal =
+    let f = family_of task.target image in IsAsserted f.text_of (f.analysis task.limits) task second answered text journal
+
+abbrev pub IsDecidedOn : Target → Limits → (workers : ℕ) → List (Option ℕ) → List (ℕ × Assertion) → Status → List ℕ → List Event → Type 0
+IsDecidedOn target limits workers image list answered text journal =
+    let f = family_of target image in IsDecided f.text_of (f.analysis limits) workers list answered text journal
 
 -- the book that a closed or an open answer tells of
 closed_works : (target : Target) (limits : Limits) (workers : ℕ) (image : List (Option ℕ)) (report : List ℕ) (journal : List Event)
@@ -198,7 +207,7 @@ decided_ends text_of analysis task workers list answered text journal (decided i
     subst (Ends (Assert task)) (sym told) (decision_ends task (broken_in text_of analysis list journal))
 
 asserted_ends : (task : Task) (image : List (Option ℕ)) (second : Option (List ℕ)) (answered : Status) (text : List ℕ) (journal : List Event)
-    → IsAsserted task image second answered text journal → Ends (Assert task) answered
+    → IsAssertedOn task image second answered text journal → Ends (Assert task) answered
 asserted_ends task image second answered text journal (asserted list read is) =
     let f = family_of task.target image in decided_ends f.text_of (f.analysis task.limits) task task.workers list answered text journal is
 asserted_ends task image second answered text journal (unread line is told line_is none) = subst (Ends (Assert task)) (sym told) (refused_assertions task)
@@ -235,6 +244,34 @@ image_reply_ends (Run target steps) image second answered text journal is =
 image_reply_ends (Gen chip number) image second answered text journal is =
     let works = last_works ((family_of (usual_target chip) image).analysis usual_limits) journal in
     subst (Ends (Gen chip number)) (sym is.1.status_is) (summary_ends chip number (are_closed works))
+
+-- what ends so tells no fault
+ends_quiet : (reading : Reading) (answered : Status) → Ends reading answered → TellsNoFault answered
+ends_quiet reading answered (closed task) = ((λ f. cc f), (λ f. cc f))
+ends_quiet reading answered (left_open task) = ((λ f. cc f), (λ f. cc f))
+ends_quiet reading answered (disassembled target) = ((λ f. cc f), (λ f. cc f))
+ends_quiet reading answered (ran_on target steps) = ((λ f. cc f), (λ f. cc f))
+ends_quiet reading answered (went_wild target steps) = ((λ f. cc f), (λ f. cc f))
+ends_quiet reading answered (lacked_a_choice target steps) = ((λ f. cc f), (λ f. cc f))
+ends_quiet reading answered (refused_script target steps) = ((λ f. cc f), (λ f. cc f))
+ends_quiet reading answered (script_too_long target steps) = ((λ f. cc f), (λ f. cc f))
+ends_quiet reading answered (kept_all task) = ((λ f. cc f), (λ f. cc f))
+ends_quiet reading answered (open_under_assertions task) = ((λ f. cc f), (λ f. cc f))
+ends_quiet reading answered (broke task) = ((λ f. cc f), (λ f. cc f))
+ends_quiet reading answered (refused_assertions task) = ((λ f. cc f), (λ f. cc f))
+ends_quiet reading answered (assertions_too_long task) = ((λ f. cc f), (λ f. cc f))
+ends_quiet reading answered (certified task) = ((λ f. cc f), (λ f. cc f))
+ends_quiet reading answered (refused_certificate task) = ((λ f. cc f), (λ f. cc f))
+ends_quiet reading answered (certificate_too_long task) = ((λ f. cc f), (λ f. cc f))
+ends_quiet reading answered (summed chip number) = ((λ f. cc f), (λ f. cc f))
+ends_quiet reading answered (summed_open chip number) = ((λ f. cc f), (λ f. cc f))
+
+pub reply_quiet : (reading : Reading) (input : Option (List ℕ)) (answered : Status) (text : List ℕ) (journal : List Event)
+    → IsReply reading input answered text journal → TellsNoFault answered
+reply_quiet reading input answered text journal (of_image image second gives reply) =
+    ends_quiet reading answered (image_reply_ends reading image second answered text journal reply)
+reply_quiet reading input answered text journal (of_bad line fault bad is line_is none) = ((λ f. cc (is, f)), (λ f. cc (is, f)))
+reply_quiet reading input answered text journal (of_long long is line_is none) = ((λ f. cc (is, f)), (λ f. cc (is, f)))
 
 -- an analysis alone leaves something open
 analyses_open : (reading : Reading) (answered : Status) → Ends reading answered → answered ≡ Open → Analyses reading
@@ -323,7 +360,7 @@ told_second {P} rules (Some read) second image text e gives told =
 asserted_image : HaveTruths → HaveRules → (task : Task) → IsRamRange (target_rules task.target)
     → EndsInMemory (target_rules task.target)
     → IsBounded (Assert task) → (input second : Option (List ℕ)) (image : List (Option ℕ)) (report : List ℕ) (journal : List Event)
-    → InputGives (target_rules task.target) Second input second image → IsAsserted task image second Done report journal
+    → InputGives (target_rules task.target) Second input second image → IsAssertedOn task image second Done report journal
     → HoldsOf task.target input
 asserted_image truths rules task range end few input second image report journal gives (asserted list read is) text e =
     let behind = told_second {P = λ t. AreAsserted (spaces_of task.target) t list} (target_rules task.target) input second image text e gives read in
@@ -377,7 +414,7 @@ pub record IsLeftOpen (task : Task) (text report : List ℕ) (journal : List Eve
 open_image : HaveTruths → HaveRules → (task : Task) → IsRamRange (target_rules task.target)
     → EndsInMemory (target_rules task.target)
     → IsBounded (Assert task) → (input second : Option (List ℕ)) (image : List (Option ℕ)) (report : List ℕ) (journal : List Event)
-    → InputGives (target_rules task.target) Second input second image → IsAsserted task image second Open report journal
+    → InputGives (target_rules task.target) Second input second image → IsAssertedOn task image second Open report journal
     → (text : List ℕ) → input ≡ Some text → IsLeftOpen task text report journal
 open_image truths rules task range end few input second image report journal gives (asserted list read is) text e =
     let behind = told_second {P = λ t. AreAsserted (spaces_of task.target) t list} (target_rules task.target) input second image text e gives read in

@@ -130,21 +130,17 @@ pub data IsDecided {A : Type 0} (text_of : ℕ → List ℕ → List ℕ) (analy
       → text ≡ broken_text (item_line_of text_of) (broken_in text_of analysis list journal)
       → IsDecided text_of analysis workers list replied text journal
 
--- that of the chip with this image, by so many workers under these limits
-abbrev pub IsDecidedOn : Target → Limits → (workers : ℕ) → List (Option ℕ) → List (ℕ × Assertion) → Status → List ℕ → List Event → Type 0
-IsDecidedOn target limits workers image list replied text journal =
-    let f = family_of target image in IsDecided f.text_of (f.analysis limits) workers list replied text journal
-
--- The reply to an image with a second text: that to the assertions which stand there, or the first line that is of no
+-- The reply to a program with a second text: that to the assertions which stand there, or the first line that is of no
 -- form, or that there is too much.
-pub data IsAsserted (task : Task) (image : List (Option ℕ)) (second : Option (List ℕ)) (replied : Status) (text : List ℕ) (journal : List Event) : Type 0 where
+pub data IsAsserted {A : Type 0} (text_of : ℕ → List ℕ → List ℕ) (analysis : Analysis A) (task : Task)
+    (second : Option (List ℕ)) (replied : Status) (text : List ℕ) (journal : List Event) : Type 0 where
   asserted : (list : List (ℕ × Assertion)) → IfSome second (λ t. AreAsserted (spaces_of task.target) t list)
-      → IsDecidedOn task.target task.limits task.workers image list replied text journal
-      → IsAsserted task image second replied text journal
+      → IsDecided text_of analysis task.workers list replied text journal
+      → IsAsserted text_of analysis task second replied text journal
   unread : (line : ℕ) → IfSome second (λ t. IsUnread (spaces_of task.target) t line) → replied ≡ status.BadCert → text ≡ no_line line
-      → journal ≡ [] → IsAsserted task image second replied text journal
+      → journal ≡ [] → IsAsserted text_of analysis task second replied text journal
   overlong : IfSome second (λ t. second_limit < length t) → replied ≡ status.TooLong → text ≡ long_line → journal ≡ []
-      → IsAsserted task image second replied text journal
+      → IsAsserted text_of analysis task second replied text journal
 
 -- the text is within the limit, and this is its verdict as a certificate
 pub record IsJudged {A : Type 0} (text_of : ℕ → List ℕ → List ℕ) (analysis : Analysis A) (texts : StateTexts A) (certificate : List ℕ)
@@ -174,39 +170,53 @@ abbrev pub summary_of_journal : {A : Type 0} → (ℕ → List ℕ → List ℕ)
 summary_of_journal text_of analysis chip number journal = let works = last_works analysis journal in
     summary chip number (are_closed works) (deepest_of None (items_of works)) (counts_of (reported_lines text_of works))
 
--- that of the chip with this image, under these limits
-abbrev pub summary_on : Target → Limits → List (Option ℕ) → ChipName → (number : ℕ) → List Event → List ℕ
-summary_on target limits image chip number journal =
-    let f = family_of target image in summary_of_journal f.text_of (f.analysis limits) chip number journal
-
 -- the reply to a program that one worker analyses as a made one: the summary of its report
 abbrev pub IsSummary : {A : Type 0} → (ℕ → List ℕ → List ℕ) → Analysis A → ChipName → (number : ℕ) → Status → List ℕ → List Event → Type 0
 IsSummary text_of analysis chip number replied text journal =
     (report : List ℕ) × IsAnalysed text_of analysis 1 replied report journal
     × (text ≡ summary_of_journal text_of analysis chip number journal)
 
--- that of the chip with this image, under these limits
-abbrev pub IsSummedOn : Target → Limits → List (Option ℕ) → ChipName → (number : ℕ) → Status → List ℕ → List Event → Type 0
-IsSummedOn target limits image chip number replied text journal =
-    (report : List ℕ) × IsAnalysedOn target limits 1 image replied report journal
-    × (text ≡ summary_on target limits image chip number journal)
+-- what is asked of a program that is analysed, by as many workers as the words may ask for
+abbrev pub IsOfProgram : Reading → Type 0
+IsOfProgram (Analyse task) = (1 ≤ task.workers) × (task.workers ≤ 16)
+IsOfProgram (Assert task) = (1 ≤ task.workers) × (task.workers ≤ 16)
+IsOfProgram (Check task) = Unit {0}
+IsOfProgram (Gen chip number) = Unit {0}
+IsOfProgram (Disasm target) = ⊥
+IsOfProgram (Run target steps) = ⊥
 
--- the reply to the image of a made program, which has the usual RAM and limits
-abbrev pub IsSummed : ChipName → (number : ℕ) → List (Option ℕ) → Status → List ℕ → List Event → Type 0
-IsSummed chip number image replied text journal =
-    IsSummedOn (usual_target chip) usual_limits image chip number replied text journal
+-- the reply to it
+abbrev pub IsProgramReply : {A : Type 0} → (ℕ → List ℕ → List ℕ) → Analysis A → StateTexts A → Reading
+    → (second : Option (List ℕ)) → Status → List ℕ → List Event → Type 0
+IsProgramReply text_of analysis texts (Analyse task) second replied text journal =
+    IsReported text_of analysis texts task.workers task.cert replied text journal
+IsProgramReply text_of analysis texts (Assert task) second replied text journal =
+    IsAsserted text_of analysis task second replied text journal
+IsProgramReply text_of analysis texts (Check task) second replied text journal =
+    IsChecked text_of analysis texts second replied text × (journal ≡ [])
+IsProgramReply text_of analysis texts (Gen chip number) second replied text journal =
+    IsSummary text_of analysis chip number replied text journal
+IsProgramReply text_of analysis texts (Disasm target) second replied text journal = ⊥
+IsProgramReply text_of analysis texts (Run target steps) second replied text journal = ⊥
+
+-- that of a chip with an image, under limits
+abbrev pub IsAskedOn : Target → Limits → List (Option ℕ) → Reading → (second : Option (List ℕ)) → Status → List ℕ → List Event → Type 0
+IsAskedOn target limits image reading second replied text journal =
+    let f = family_of target image in IsProgramReply f.text_of (f.analysis limits) f.texts reading second replied text journal
 
 -- the reply to an image
 abbrev pub IsImageReply : Reading → List (Option ℕ) → (second : Option (List ℕ)) → Status → List ℕ → List Event → Type 0
 IsImageReply (Analyse task) image second replied text journal =
-    IsReportedOn task.target task.limits task.workers task.cert image replied text journal
+    IsAskedOn task.target task.limits image (Analyse task) second replied text journal
+IsImageReply (Assert task) image second replied text journal =
+    IsAskedOn task.target task.limits image (Assert task) second replied text journal
+IsImageReply (Check task) image second replied text journal =
+    IsAskedOn task.target task.limits image (Check task) second replied text journal
+IsImageReply (Gen chip number) image second replied text journal =
+    IsAskedOn (usual_target chip) usual_limits image (Gen chip number) second replied text journal
 IsImageReply (Disasm target) image second replied text journal = (replied ≡ status.Done) × IsListing target image text × (journal ≡ [])
 IsImageReply (Run target steps) image second replied text journal =
     IsRun (run_under target steps image) second replied text × (journal ≡ [])
-IsImageReply (Assert task) image second replied text journal = IsAsserted task image second replied text journal
-IsImageReply (Check task) image second replied text journal =
-    IsCheckedOn task.target task.limits image second replied text × (journal ≡ [])
-IsImageReply (Gen chip number) image second replied text journal = IsSummed chip number image replied text journal
 
 -- The reply to words that are a reading, over the text that the input is, where it is told: that to the image which it
 -- gives, or its first faulty line, or that it is too long.

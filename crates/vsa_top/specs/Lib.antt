@@ -3,6 +3,7 @@ pub mod Answer
 pub mod Asserted
 pub mod Certified
 pub mod Family
+pub mod Faults
 pub mod Headline
 pub mod Input
 pub mod Laws

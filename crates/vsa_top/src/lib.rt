@@ -3,6 +3,7 @@
 #![tactic(auto)]
 
 mod alone;
+mod asked;
 mod asserting;
 mod checking;
 mod headline;
