@@ -15,18 +15,19 @@ use Rattle.item_lines.specs.Line.{item_line_of}
 use Rattle.chip_analysis.specs.declared.chip.Work.{Work}
 use Rattle.chip_numbers.specs.declared.space.Space.{Space}
 use Rattle.report_bytes.specs.Report.{IsReportOf, are_closed, last_works, report_of}
+use Rattle.closed_book.specs.Bounded.{AreBounded}
 use Rattle.book_rules.specs.Kept.{live_pairs}
 use Rattle.book_rules.specs.Machine.{replay, IsClosed}
 use Rattle.book_rules.specs.declared.event.Event.{Event}
 use Rattle.streams.specs.Stream.{IsAtEnd}
-use Rattle.vsa_top.specs.Answer.{IsAnalysis, IsDecided, IsDecidedOn, TellsNoFault}
+use Rattle.vsa_top.specs.Answer.{IsAnalysis, IsDecided}
 use Rattle.vsa_top.specs.Answer.IsDecided.{decided, reported}
+use Rattle.vsa_top.specs.Family.{family_of}
 use Rattle.vsa_top.specs.Asserted.{LacksAssertions, broken_in, broken_text, refusal_of, status_of_broken, unread_of}
 use Rattle.vsa_top.specs.Input.{begun_with}
 use Rattle.vsa_top.specs.Scripts.{second_limit}
 use Rattle.vsa_top.specs.declared.outcome.Status.{Status}
 use Rattle.vsa_top.specs.declared.outcome.Status.TheVariants as status
-use Rattle.vsa_words.specs.declared.reading.Target.TheVariants.{Msp430, Mcs51}
 use Rattle.vsa_words.specs.declared.reading.Target.{Target}
 use Rattle.vsa_top.specs.declared.second.SecondError.{SecondError}
 use Rattle.vsa_top.specs.declared.second.SecondError.TheVariants as second_error
@@ -36,48 +37,31 @@ use Rattle.analysis_limits.specs.declared.limits.Limits.{Limits}
 
 -- what a closed book of these works breaks is what its journal's book breaks
 pub decided_by : {A : Type 0} (text_of : ℕ → List ℕ → List ℕ) (m : Analysis A) (workers : ℕ) (list : List (ℕ × Assertion)) (journal told : List Event)
-    (works : List (WorkUnit × Work A)) (replied : Status) (text : List ℕ) → IsAnalysis m workers journal
+    (works : List (WorkUnit × Work A)) (replied : Status) (text : List ℕ) → IsAnalysis m workers journal → AreBounded m journal
     → are_closed (last_works m journal) ≡ true
     → works ≡ live_pairs (replay m journal)
     → replied ≡ status_of_broken (broken_of (item_line_of text_of) list (flat_map (λ (w : Work A). w.items) (values_of works)))
     → text ≡ broken_text (item_line_of text_of) (broken_of (item_line_of text_of) list (flat_map (λ (w : Work A). w.items) (values_of works)))
     → told ≡ journal → IsDecided text_of m workers list replied text told
-decided_by {A = A} text_of m workers list journal told works replied text is closed same status_is text_is journal_is =
+decided_by {A = A} text_of m workers list journal told works replied text is bounded closed same status_is text_is journal_is =
     let line_of = item_line_of text_of in
     let broken = λ (ws : List (WorkUnit × Work A)). broken_of line_of list (flat_map (λ (w : Work A). w.items) (values_of ws)) in
     subst (IsDecided text_of m workers list replied text) (sym journal_is)
-    (decided is closed (status_is ∙ ap (λ ws. status_of_broken (broken ws)) same) (text_is ∙ ap (λ ws. broken_text line_of (broken ws)) same))
+    (decided is bounded closed (status_is ∙ ap (λ ws. status_of_broken (broken ws)) same) (text_is ∙ ap (λ ws. broken_text line_of (broken ws)) same))
 
 -- the report of a book that isn't closed
 pub reported_by : {A : Type 0} (text_of : ℕ → List ℕ → List ℕ) (m : Analysis A) (workers : ℕ) (list : List (ℕ × Assertion)) (journal told : List Event)
-    (report : List ℕ) (is_closed : Bool) → IsAnalysis m workers journal → (IsClosed (replay m journal) → ⊥)
+    (report : List ℕ) (is_closed : Bool) → IsAnalysis m workers journal → AreBounded m journal → (IsClosed (replay m journal) → ⊥)
     → (are_closed (last_works m journal) ≡ true → IsClosed (replay m journal)) → IsReportOf text_of (replay m journal) report is_closed
     → told ≡ journal → IsDecided text_of m workers list status.Open report told
-reported_by text_of m workers list journal told report is_closed is open_book closes reported_is journal_is =
+reported_by text_of m workers list journal told report is_closed is bounded open_book closes reported_is journal_is =
     let finished : reported_is.finished ≡ true = reported_is.is_finished.1 is.finished in
     let left : are_closed (last_works m journal) ≡ false = elim (cases_Bool (are_closed (last_works m journal))) [
       | inl closed ↦ absurd (open_book (closes closed))
       | inr left ↦ left
     ] in
     subst (IsDecided text_of m workers list status.Open report) (sym journal_is)
-    (reported is left refl (reported_is.bytes ∙ ap (λ f. report_of text_of f (last_works m journal)) finished))
-
--- the statuses of decisions tell no fault
-quiet_status : (broken : List _) → TellsNoFault (status_of_broken broken)
-quiet_status [] = ((λ e. cc e), (λ e. cc e))
-quiet_status (b ∷ broken) = ((λ e. cc e), (λ e. cc e))
-
-quiet_decision : {A : Type 0} (text_of : ℕ → List ℕ → List ℕ) (m : Analysis A) (workers : ℕ) (list : List (ℕ × Assertion)) (replied : Status)
-    (text : List ℕ) (journal : List Event) → IsDecided text_of m workers list replied text journal → TellsNoFault replied
-quiet_decision text_of m workers list replied text journal (reported is left told text_is) =
-    subst TellsNoFault (sym told) ((λ e. cc e), (λ e. cc e))
-quiet_decision text_of m workers list replied text journal (decided is closed told text_is) =
-    subst TellsNoFault (sym told) (quiet_status (broken_in text_of m list journal))
-
-pub quiet_on : (target : Target) (limits : Limits) (workers : ℕ) (image : List (Option ℕ)) (list : List (ℕ × Assertion)) (replied : Status)
-    (text : List ℕ) (journal : List Event) → IsDecidedOn target limits workers image list replied text journal → TellsNoFault replied
-quiet_on (Msp430 ram) limits workers image list replied text journal is = quiet_decision _ _ workers list replied text journal is
-quiet_on Mcs51 limits workers image list replied text journal is = quiet_decision _ _ workers list replied text journal is
+    (reported is bounded left refl (reported_is.bytes ∙ ap (λ f. report_of text_of f (last_works m journal)) finished))
 
 -- THE TEXT BEHIND
 

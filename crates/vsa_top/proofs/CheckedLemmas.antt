@@ -1,6 +1,6 @@
 -- A text gives one image and one second text, and the answer to a certificate is the verdict on that one.
 use Rattle.std.proofs.Common.{◌≡◌, ◌++◌, ◌<◌, ◌≤◌, ℕ, take, drop, Option, None, Some, List, [], length, sym, ap, subst, ◌∙◌, inl, inr, arith}
-use Rattle.std.specs.Prelude.{◌⊎◌, IfSome}
+use Rattle.std.specs.Prelude.{◌⊎◌, ◌↔◌, true, IfSome}
 use Rattle.std.proofs.Math.Seq.{take-append_seam, drop-append_seam}
 use Rattle.std.proofs.lemmas.Bool.{cases_order}
 use Rattle.std.proofs.lemmas.List.{length-append, take-append-le}
@@ -11,17 +11,27 @@ use Rattle.ihex_read.specs.ImageText.{Denotes}
 use Rattle.text_lines.specs.Lines as texts
 use Rattle.ihex_read.specs.Reading.{HasEnded}
 use Rattle.book_rules.specs.declared.event.Event.{Event}
-use Rattle.vsa_top.specs.Answer.{Answers, IsCheckedOn, IsReply, IsVerdictOn}
+use Rattle.analysis_limits.specs.declared.limits.Limits.{Limits}
+use Rattle.cert_verdict.specs.Verdict.{IsVerdict}
+use Rattle.image.specs.Kept.{IsRamRange}
+use Rattle.vsa_top.specs.Certified.{IsClosedCertOf}
+use Rattle.vsa_top.specs.Family.{family_of}
+use Rattle.vsa_top.specs.Laws.{IsGiven}
+use Rattle.vsa_top.specs.Scripts.{second_limit}
+use Rattle.vsa_words.specs.declared.reading.Target.{Target}
+use Rattle.vsa_top.specs.Answer.IsChecked.{judged, lengthy}
+use Rattle.vsa_top.proofs.LawsLemmas.{HaveOnes, HaveTruths}
+use Rattle.vsa_top.specs.Answer.{Answers, IsCheckedOn, IsReply, IsVerdictOn, status_of_verdict}
 use Rattle.vsa_top.specs.Answer.Answers.{replied, unreplied}
 use Rattle.vsa_top.specs.Answer.IsReply.{of_image, of_bad, of_long}
 use Rattle.vsa_top.specs.Answer.IsWritten.{whole, cut}
 use Rattle.vsa_top.specs.Input.{AreTexts, Gives, InputGives, IsBad, IsTooLong}
-use Rattle.vsa_words.specs.Words.{target_rules}
+use Rattle.vsa_words.specs.Words.{EndsInMemory, IsBounded, target_rules}
 use Rattle.vsa_top.specs.declared.outcome.Status.{Status}
-use Rattle.vsa_top.specs.declared.outcome.Status.TheVariants.{ReadFault, WriteFault, Memory}
+use Rattle.vsa_top.specs.declared.outcome.Status.TheVariants.{Done, ReadFault, WriteFault, Memory}
 use Rattle.vsa_words.specs.declared.reading.Reading.TheVariants.{Check}
 use Rattle.vsa_words.specs.declared.reading.Task.{Task}
-use Rattle.vsa_top.proofs.HeadlineLemmas.{EndedAreFaultless, EndedStay, HaveNotBoth, HaveOneImage, not_bad, not_long}
+use Rattle.vsa_top.proofs.HeadlineLemmas.{EndedAreFaultless, EndedStay, HaveNotBoth, HaveOneImage, HaveRules, closed_verdict, not_bad, not_long}
 
 -- ONE WAY TO CUT A TEXT
 
@@ -56,7 +66,7 @@ fronts_same rules text image other second more is so = elim (cases_order (length
 ]
 
 -- the image and the second text that a text gives
-one_pair : HaveOneImage → (rules : Rules) (text : List ℕ) (image other : List (Option ℕ)) (second more : List ℕ)
+pub one_pair : HaveOneImage → (rules : Rules) (text : List ℕ) (image other : List (Option ℕ)) (second more : List ℕ)
     → AreTexts rules text image second
     → AreTexts rules text other more → (image ≡ other) × (second ≡ more)
 one_pair one rules text image other second more is so =
@@ -118,3 +128,54 @@ verdict_lem both stay faultless one task answered input before after journal tex
 verdict_lem both stay faultless one task answered input before after journal text certificate image (unreplied (inr memory) kept none) e gives
     no_read no_write =
     inr memory
+
+-- THE CERTIFICATE OF A CLOSED TABLE
+
+-- a text that has the verdict of a closed table gets its report
+pub told_by : HaveOnes → (target : Target) (limits : Limits) (image : List (Option ℕ)) (certificate report : List ℕ) (answered : Status) (told : List ℕ)
+    → (let f = family_of target image in IsVerdict f.text_of (f.analysis limits) f.texts certificate true report)
+    → length certificate ≤ second_limit → IsCheckedOn target limits image (Some certificate) answered told
+    → (answered ≡ Done) × (told ≡ report)
+told_by ones target limits image certificate report answered told verdict fits (judged closed is status_is) =
+    let same = (ones target limits image).verdict certificate closed true told report is.verdict verdict in
+    (status_is ∙ ap status_of_verdict same.0, same.1)
+told_by ones target limits image certificate report answered told verdict fits (lengthy longer status_is line_is) = absurd (omega (arith, fits, longer))
+
+checked_exactly : HaveTruths → HaveOnes → (target : Target) (limits : Limits) (image : List (Option ℕ)) (certificate : List ℕ) (answered : Status)
+    (told : List ℕ) → IsGiven target limits image → length certificate ≤ second_limit
+    → IsCheckedOn target limits image (Some certificate) answered told → (answered ≡ Done) ↔ IsClosedCertOf target limits image certificate
+checked_exactly truths ones target limits image certificate answered told given fits checked =
+    let f = family_of target image in
+    let true_of = truths target limits image given in (
+      (λ done. true_of.closes certificate told
+          (closed_verdict f.text_of (f.analysis limits) f.texts (Some certificate) told
+          (subst (λ a. IsCheckedOn target limits image (Some certificate) a told) done checked))),
+      (λ is. let verdict = true_of.accepts certificate is in
+          (told_by ones target limits image certificate verdict.0 answered told verdict.1 fits checked).0),
+    )
+
+-- an image that stands in front of a second text is given
+pub given_before : HaveRules → (task : Task) (text second : List ℕ) (image : List (Option ℕ)) → IsRamRange (target_rules task.target)
+    → EndsInMemory (target_rules task.target) → IsBounded (Check task)
+    → AreTexts (target_rules task.target) text image second → IsGiven task.target task.limits image
+given_before rules task text second image range end few gives = record {
+  read = rules (target_rules task.target) Second (texts.lines_of gives.front) image gives.denoted;
+  ram = range;
+  top = end;
+  calls = few.0;
+}
+
+pub exact_lem : HaveTruths → HaveOnes → HaveRules → HaveNotBoth → EndedStay → EndedAreFaultless → HaveOneImage
+    → (task : Task) (answered : Status) (input before after : Option (List ℕ))
+    (journal : List Event) (text certificate : List ℕ) (image : List (Option ℕ))
+    → IsRamRange (target_rules task.target) → EndsInMemory (target_rules task.target) → IsBounded (Check task)
+    → Answers (Check task) answered input before after journal
+    → input ≡ Some text → Gives (target_rules task.target) Second text image certificate → length certificate ≤ second_limit
+    → (answered ≡ ReadFault → ⊥) → (answered ≡ WriteFault → ⊥)
+    → ((answered ≡ Done) ↔ IsClosedCertOf task.target task.limits image certificate) ⊎ (answered ≡ Memory)
+exact_lem truths ones rules both stay faultless one task answered input before after journal text certificate image range end few answers e gives fits
+    no_read no_write = elim (verdict_lem both stay faultless one task answered input before after journal text certificate image answers e gives no_read no_write) [
+      | inr memory ↦ inr memory
+      | inl verdict ↦ inl (checked_exactly truths ones task.target task.limits image certificate answered verdict.told
+          (given_before rules task text certificate image range end few gives) fits verdict.checked)
+    ]

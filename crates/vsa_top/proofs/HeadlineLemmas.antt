@@ -15,27 +15,16 @@ use Rattle.image.specs.Kept.{IsRamRange, IsReadUnder}
 use Rattle.text_lines.specs.Lines as texts
 use Rattle.ihex_read.specs.Reading.{HasEnded}
 use Rattle.streams.specs.Stream.{appended}
-use Rattle.book_rules.specs.Machine.{replay, IsLegalJournal, IsFinished}
 use Rattle.book_rules.specs.declared.event.Event.{Event}
 use Rattle.analysis_limits.specs.declared.limits.Limits.{Limits}
 use Rattle.chip_analysis.specs.Analysis.{Analysis}
-use Rattle.chip_law.specs.Machine.{Machine}
-use Rattle.mcs51_flow.specs.Standing.{instr_text as mcs51_text}
-use Rattle.mcs51_flow.specs.Chip.{mcs51_analysis, IsSetting as IsMcs51Program}
-use Rattle.mcs51_flow.specs.declared.setting.Setting.{Setting as Mcs51Setting}
-use Rattle.mcs51_flow.specs.Machine.{machine_if as mcs51_machine_if}
-use Rattle.msp430_flow.specs.Standing.{instr_text as msp430_text}
-use Rattle.msp430_flow.specs.Chip.{msp430_analysis, IsSetting as IsMsp430Program}
-use Rattle.msp430_flow.specs.declared.setting.Setting.{Setting as Msp430Setting}
-use Rattle.msp430_flow.specs.Machine.{machine_if as msp430_machine_if}
 use Rattle.run_trace.specs.declared.trace.End.{End}
 use Rattle.run_trace.specs.declared.trace.End.TheVariants as ended
 use Rattle.run_trace.specs.Trace.{Ended}
-use Rattle.report_text.specs.Promise.{CoversEveryRun, ShowsOpenSites}
-use Rattle.report_bytes.specs.Report.{are_closed, last_works, report_of_journal}
+use Rattle.report_bytes.specs.Report.{are_closed, last_works}
 use Rattle.vsa_top.specs.declared.outcome.Status.{Status}
 use Rattle.vsa_top.specs.declared.outcome.Status.TheVariants.{Done, Open, ReadFault, WriteFault, Memory}
-use Rattle.vsa_top.specs.Answer.{Analyses, Answers, Ends, IsAnalysed, IsAnalysedOn, IsAsserted, IsFollowed, IsReportedOn, IsChecked, IsCheckedOn, IsDecided, IsDecidedOn, IsImageReply, IsReply, IsRun, IsJudged, TellsNoFault, run_under, status_of_analysis, status_of_end, status_of_verdict}
+use Rattle.vsa_top.specs.Answer.{Analyses, Answers, Ends, IsAnalysedOn, IsFollowed, IsReportedOn, IsChecked, IsCheckedOn, IsAsserted, IsDecided, IsImageReply, IsReply, IsRun, IsJudged, TellsNoFault, run_under, status_of_analysis, status_of_end, status_of_verdict}
 use Rattle.vsa_top.specs.Answer.Analyses.{of_input, of_asserted, of_made}
 use Rattle.vsa_top.specs.Answer.Answers.{replied, unreplied}
 use Rattle.vsa_top.specs.Answer.Ends.{closed, left_open, disassembled, ran_on, went_wild, lacked_a_choice, refused_script, script_too_long, summed, summed_open}
@@ -48,25 +37,23 @@ use Rattle.vsa_top.specs.Answer.IsReply.{of_image, of_bad, of_long}
 use Rattle.vsa_top.specs.Answer.IsRun.{ran, refused, longer}
 use Rattle.vsa_top.specs.Answer.IsWritten.{whole, cut}
 use Rattle.cert_verdict.specs.Verdict.{IsVerdict}
-use Rattle.mcs51_flow.specs.Texts.{mcs51_texts}
-use Rattle.msp430_flow.specs.Texts.{msp430_texts}
 use Rattle.state_text.specs.Texts.{StateTexts}
-use Rattle.assert_check.specs.Holding.{Holds}
 use Rattle.assert_check.specs.declared.assertion.Assertion.{Assertion}
 use Rattle.assert_check.specs.declared.deciding.Broken.{Broken}
 use Rattle.vsa_top.specs.Asserted.{AreAsserted, HoldOn, broken_in, spaces_of, status_of_broken}
-use Rattle.vsa_top.specs.Headline.{CertifiesOn, CoversRunsOf, HoldsOf, ReportsOn, ShowsSitesOf}
+use Rattle.vsa_top.specs.Family.{family_of}
+use Rattle.vsa_top.specs.Laws.{IsGiven}
+use Rattle.vsa_top.specs.Certified.{IsClosedCertOf}
+use Rattle.vsa_top.specs.Headline.{CertifiesOn, CoversRunsOf, HoldsOf, LeavesOpen, ReportsOn, ShowsSitesOf}
 use Rattle.vsa_top.specs.Input.{text_limit, front_of, input_of, AreTexts, Gives, InputGives, IsBad, IsTooLong, IsImageOf}
 use Rattle.image.specs.declared.chip_name.ChipName.{ChipName}
 use Rattle.image.specs.declared.chip_name.ChipName.TheVariants as chip
-use Rattle.image.specs.declared.ram_range.RamRange.{RamRange}
 use Rattle.vsa_words.specs.declared.reading.Reading.{Reading}
 use Rattle.vsa_words.specs.declared.reading.Reading.TheVariants.{Analyse, Assert, Check, Disasm, Run, Gen}
 use Rattle.vsa_words.specs.declared.reading.Target.{Target}
-use Rattle.vsa_words.specs.declared.reading.Target.TheVariants.{Msp430, Mcs51}
 use Rattle.vsa_words.specs.declared.reading.Task.{Task}
-use Rattle.vsa_top.specs.Settings.{device_of, mcs51_setting, msp430_setting}
-use Rattle.vsa_words.specs.Words.{EndsInMemory, IsBounded, rules_of, target_rules, usual_task, tail_of}
+use Rattle.vsa_words.specs.Words.{EndsInMemory, IsBounded, rules_of, target_rules, usual_limits, usual_target, tail_of}
+use Rattle.vsa_top.proofs.LawsLemmas.{HaveTruths}
 use Rattle.vsa_top.proofs.InputLemmas.{front_goes_on}
 
 -- the reply that an answer gives whole
@@ -96,50 +83,6 @@ open_is : (is_closed : Bool) → Open ≡ status_of_analysis is_closed → is_cl
 open_is true e = absurd (cc)
 open_is false e = refl
 
--- the closed reports of a chip's programs cover every run, whatever the texts of instructions
-abbrev pub CoverRuns : {B S A : Type 0} → (B → Type 0) → (B → Machine S) → (B → Analysis A) → Type 0
-CoverRuns {B} program machine analysis = (base : B) (text_of : ℕ → List ℕ → List ℕ) (journal : List Event) → program base
-    → IsLegalJournal (analysis base) journal → IsFinished (replay (analysis base) journal)
-    → are_closed (last_works (analysis base) journal) ≡ true
-    → CoversEveryRun (machine base) text_of (report_of_journal text_of (analysis base) journal)
-
--- the open reports of a chip's programs show their open sites
-abbrev ShowSites : {B A : Type 0} → (B → Type 0) → (B → Analysis A) → Type 0
-ShowSites {B} program analysis = (base : B) (text_of : ℕ → List ℕ → List ℕ) (journal : List Event) → program base
-    → IsLegalJournal (analysis base) journal → IsFinished (replay (analysis base) journal)
-    → are_closed (last_works (analysis base) journal) ≡ false
-    → ShowsOpenSites (analysis base) journal (report_of_journal text_of (analysis base) journal)
-
-covers_of : {B S A : Type 0} (program : B → Type 0) (machine : B → Machine S) (analysis : B → Analysis A)
-    → CoverRuns program machine analysis
-    → (base : B) (text_of : ℕ → List ℕ → List ℕ) (workers : ℕ) (report : List ℕ) (journal : List Event) → program base
-    → IsAnalysed text_of (analysis base) workers Done report journal → CoversEveryRun (machine base) text_of report
-covers_of program machine analysis cover base text_of workers report journal is_program is =
-    let none_left = closed_is (are_closed (last_works (analysis base) journal)) is.status_is in
-    subst (CoversEveryRun (machine base) text_of) (sym is.text_is)
-    (cover base text_of journal is_program is.is_analysis.legal is.is_analysis.finished none_left)
-
-shows_of : {B A : Type 0} (program : B → Type 0) (analysis : B → Analysis A) → ShowSites program analysis
-    → (base : B) (text_of : ℕ → List ℕ → List ℕ) (workers : ℕ) (report : List ℕ) (journal : List Event) → program base
-    → IsAnalysed text_of (analysis base) workers Open report journal → ShowsOpenSites (analysis base) journal report
-shows_of program analysis shows base text_of workers report journal is_program is =
-    let left = open_is (are_closed (last_works (analysis base) journal)) is.status_is in
-    subst (ShowsOpenSites (analysis base) journal) (sym is.text_is)
-    (shows base text_of journal is_program is.is_analysis.legal is.is_analysis.finished left)
-
--- what is known of the reports of both chips
-abbrev pub CoverMsp430 : Type 0
-CoverMsp430 = CoverRuns IsMsp430Program msp430_machine_if msp430_analysis
-
-abbrev pub CoverMcs51 : Type 0
-CoverMcs51 = CoverRuns IsMcs51Program mcs51_machine_if mcs51_analysis
-
-abbrev ShowMsp430 : Type 0
-ShowMsp430 = ShowSites IsMsp430Program msp430_analysis
-
-abbrev ShowMcs51 : Type 0
-ShowMcs51 = ShowSites IsMcs51Program mcs51_analysis
-
 -- what is known of texts
 abbrev pub HaveRules : Type 0
 HaveRules = (rules : Rules) (tail : Tail) (lines : List (List ℕ)) (image : List (Option ℕ)) → Denotes rules tail lines image → IsReadUnder rules image
@@ -163,64 +106,37 @@ pub gives_image : (rules : Rules) (input second : Option (List ℕ)) (image : Li
 gives_image rules None second image gives = tt
 gives_image rules (Some text) second image gives = gives.2.0
 
--- an image that is analysed was read under its rules, and the words bound its RAM and the call strings
-pub record IsGiven (target : Target) (limits : Limits) (image : List (Option ℕ)) : Type 0 where
-  pub read : IsReadUnder (target_rules target) image
-  pub ram : IsRamRange (target_rules target)
-  pub top : EndsInMemory (target_rules target)
-  pub calls : limits.calls ≤ 8
+-- the reply to assertions of a chip with an image
+abbrev pub IsAssertedOn : (task : Task) → List (Option ℕ) → (second : Option (List ℕ)) → Status → List ℕ → List Event → Type 0
+IsAssertedOn task image second answered text journal =
+    let f = family_of task.target image in IsAsserted f.text_of (f.analysis task.limits) task second answered text journal
 
-pub is_msp430 : (ram : RamRange) (limits : Limits) (image : List (Option ℕ)) → IsGiven (Msp430 ram) limits image
-    → IsMsp430Program (msp430_setting ram limits image)
-is_msp430 ram limits image given = record { program = record { read = given.read; ram = given.ram; top = given.top }; calls = given.calls }
+abbrev pub IsDecidedOn : Target → Limits → (workers : ℕ) → List (Option ℕ) → List (ℕ × Assertion) → Status → List ℕ → List Event → Type 0
+IsDecidedOn target limits workers image list answered text journal =
+    let f = family_of target image in IsDecided f.text_of (f.analysis limits) workers list answered text journal
 
-pub is_mcs51 : (limits : Limits) (image : List (Option ℕ)) → IsGiven Mcs51 limits image → IsMcs51Program (mcs51_setting limits image)
-is_mcs51 limits image given = record { program = given.read; calls = given.calls }
+-- the book that a closed or an open answer tells of
+closed_works : (target : Target) (limits : Limits) (workers : ℕ) (image : List (Option ℕ)) (report : List ℕ) (journal : List Event)
+    → IsAnalysedOn target limits workers image Done report journal
+    → are_closed (last_works ((family_of target image).analysis limits) journal) ≡ true
+closed_works target limits workers image report journal is =
+    closed_is (are_closed (last_works ((family_of target image).analysis limits) journal)) is.status_is
 
-pub covers_image : CoverMsp430 → CoverMcs51
-    → (target : Target) (limits : Limits) (workers : ℕ) (image : List (Option ℕ)) (report : List ℕ) (journal : List Event)
+pub covers_image : HaveTruths → (target : Target) (limits : Limits) (workers : ℕ) (image : List (Option ℕ)) (report : List ℕ) (journal : List Event)
     → IsGiven target limits image → IsAnalysedOn target limits workers image Done report journal → CoversRunsOf target image report
-covers_image msp430 mcs51 (Msp430 ram) limits workers image report journal given is =
-    covers_of IsMsp430Program msp430_machine_if msp430_analysis msp430 (msp430_setting ram limits image) msp430_text
-    workers report journal (is_msp430 ram limits image given) is
-covers_image msp430 mcs51 Mcs51 limits workers image report journal given is =
-    covers_of IsMcs51Program mcs51_machine_if mcs51_analysis mcs51 (mcs51_setting limits image) mcs51_text
-    workers report journal (is_mcs51 limits image given) is
+covers_image truths target limits workers image report journal given is =
+    let made = is.is_analysis in
+    subst (CoversRunsOf target image) (sym is.text_is)
+    ((truths target limits image given).covers journal made.legal made.finished (closed_works target limits workers image report journal is))
 
-shows_image : ShowMsp430 → ShowMcs51
-    → (target : Target) (limits : Limits) (workers : ℕ) (image : List (Option ℕ)) (report : List ℕ) (journal : List Event)
+shows_image : HaveTruths → (target : Target) (limits : Limits) (workers : ℕ) (image : List (Option ℕ)) (report : List ℕ) (journal : List Event)
     → IsGiven target limits image → IsAnalysedOn target limits workers image Open report journal
     → ShowsSitesOf target limits image journal report
-shows_image msp430 mcs51 (Msp430 ram) limits workers image report journal given is =
-    shows_of IsMsp430Program msp430_analysis msp430 (msp430_setting ram limits image) msp430_text workers report journal (is_msp430 ram limits image given) is
-shows_image msp430 mcs51 Mcs51 limits workers image report journal given is =
-    shows_of IsMcs51Program mcs51_analysis mcs51 (mcs51_setting limits image) mcs51_text workers report journal (is_mcs51 limits image given) is
-
--- THE REPORT IN FRONT
-
--- what was written of an analysis begins with its report
-pub record HasReport (target : Target) (limits : Limits) (workers : ℕ) (cert : Bool) (image : List (Option ℕ)) (answered : Status) (text : List ℕ)
-    (journal : List Event) : Type 0 where
-  pub report : List ℕ
-  pub analysed : IsAnalysedOn target limits workers image answered report journal
-  pub behind : List ℕ
-  pub alone : cert ≡ false → behind ≡ []
-  pub joined : text ≡ report ++ behind
-
-behind_of : {A : Type 0} (analysis : Analysis A) (texts : StateTexts A) (cert : Bool) (journal : List Event) (report text : List ℕ)
-    → IsFollowed analysis texts cert journal report text → (behind : List ℕ) × (cert ≡ false → behind ≡ []) × (text ≡ report ++ behind)
-behind_of analysis texts false journal report text is = ([], (λ e. refl), is ∙ sym (append-nil report))
-behind_of analysis texts true journal report text is = (is.0, (λ e. absurd (cc e)), is.2)
-
-pub has_report : (target : Target) (limits : Limits) (workers : ℕ) (cert : Bool) (image : List (Option ℕ)) (answered : Status) (text : List ℕ)
-    (journal : List Event) → IsReportedOn target limits workers cert image answered text journal
-    → HasReport target limits workers cert image answered text journal
-has_report (Msp430 ram) limits workers cert image answered text journal is =
-    let b = behind_of (msp430_analysis (msp430_setting ram limits image)) (msp430_texts (device_of ram image)) cert journal is.report text is.followed in
-    record { report = is.report; analysed = is.analysed; behind = b.0; alone = b.1; joined = b.2 }
-has_report Mcs51 limits workers cert image answered text journal is =
-    let b = behind_of (mcs51_analysis (mcs51_setting limits image)) mcs51_texts cert journal is.report text is.followed in
-    record { report = is.report; analysed = is.analysed; behind = b.0; alone = b.1; joined = b.2 }
+shows_image truths target limits workers image report journal given is =
+    let made = is.is_analysis in
+    let left = open_is (are_closed (last_works ((family_of target image).analysis limits) journal)) is.status_is in
+    subst (ShowsSitesOf target limits image journal) (sym is.text_is)
+    ((truths target limits image given).shows journal made.legal made.finished left)
 
 -- the analysis of the image that the text denotes
 analysed : HaveOneImage
@@ -228,12 +144,11 @@ analysed : HaveOneImage
     (image other : List (Option ℕ)) → InputGives (target_rules task.target) Blank input second other
     → IsReportedOn task.target task.limits task.workers task.cert other answered written journal
     → input ≡ Some text → Denotes (target_rules task.target) Blank (texts.lines_of text) image
-    → HasReport task.target task.limits task.workers task.cert image answered written journal
+    → IsReportedOn task.target task.limits task.workers task.cert image answered written journal
 analysed one task input second answered written journal text image other gives reply e denoted =
     let rules = target_rules task.target in
-    has_report task.target task.limits task.workers task.cert image answered written journal
-    (subst (λ i. IsReportedOn task.target task.limits task.workers task.cert i answered written journal)
-    (same_image one rules input text image other e denoted (gives_image rules input second other gives)) reply)
+    subst (λ i. IsReportedOn task.target task.limits task.workers task.cert i answered written journal)
+    (same_image one rules input text image other e denoted (gives_image rules input second other gives)) reply
 
 -- an image that was read is given
 pub given_image : HaveRules → (task : Task) (text : List ℕ) (image : List (Option ℕ)) → IsRamRange (target_rules task.target)
@@ -242,27 +157,27 @@ pub given_image : HaveRules → (task : Task) (text : List ℕ) (image : List (O
 given_image rules task text image range end few denoted =
     record { read = rules (target_rules task.target) Blank (texts.lines_of text) image denoted; ram = range; top = end; calls = few.0 }
 
-closed_reply : CoverMsp430 → CoverMcs51 → HaveRules → HaveOneImage → (task : Task) → IsRamRange (target_rules task.target)
+closed_reply : HaveTruths → HaveRules → HaveOneImage → (task : Task) → IsRamRange (target_rules task.target)
     → EndsInMemory (target_rules task.target) → IsBounded (Analyse task)
     → (input : Option (List ℕ)) (written : List ℕ) (journal : List Event)
     → IsReply (Analyse task) input Done written journal → (text : List ℕ) (image : List (Option ℕ)) → input ≡ Some text
     → Denotes (target_rules task.target) Blank (texts.lines_of text) image
-    → (is : HasReport task.target task.limits task.workers task.cert image Done written journal) × CoversRunsOf task.target image is.report
-closed_reply msp430 mcs51 rules one task range end few input written journal (of_image other second gives reply) text image e denoted =
+    → (is : IsReportedOn task.target task.limits task.workers task.cert image Done written journal) × CoversRunsOf task.target image is.report
+closed_reply truths rules one task range end few input written journal (of_image other second gives reply) text image e denoted =
     let is = analysed one task input second Done written journal text image other gives reply e denoted in
-    (is, covers_image msp430 mcs51 task.target task.limits task.workers image is.report journal (given_image rules task text image range end few denoted) is.analysed)
-closed_reply msp430 mcs51 rules one task range end few input written journal (of_bad line fault bad is line_is none) text image e denoted = absurd (cc)
-closed_reply msp430 mcs51 rules one task range end few input written journal (of_long long is line_is none) text image e denoted = absurd (cc)
+    (is, covers_image truths task.target task.limits task.workers image is.report journal (given_image rules task text image range end few denoted) is.analysed)
+closed_reply truths rules one task range end few input written journal (of_bad line fault bad is line_is none) text image e denoted = absurd (cc)
+closed_reply truths rules one task range end few input written journal (of_long long is line_is none) text image e denoted = absurd (cc)
 
-pub closed_lem : CoverMsp430 → CoverMcs51 → HaveRules → HaveOneImage
+pub closed_lem : HaveTruths → HaveRules → HaveOneImage
     → (task : Task) (input before after : Option (List ℕ)) (journal : List Event)
     → IsRamRange (target_rules task.target) → EndsInMemory (target_rules task.target) → IsBounded (Analyse task)
-    → Answers (Analyse task) Done input before after journal → ReportsOn task input before after (CoversRunsOf task.target)
-closed_lem msp430 mcs51 rules one task input before after journal range end few answers text image e denoted =
+    → Answers (Analyse task) Done input before after journal → ReportsOn task input before after journal (CoversRunsOf task.target)
+closed_lem truths rules one task input before after journal range end few answers text image e denoted =
     let given = gives_reply (Analyse task) Done input before after journal answers ((λ f. cc f), (λ f. cc f)) (λ f. cc f) in
-    let told = closed_reply msp430 mcs51 rules one task range end few input given.text journal given.reply text image e denoted in (
+    let told = closed_reply truths rules one task range end few input given.text journal given.reply text image e denoted in (
       told.0.report,
-      record { behind = told.0.behind; alone = told.0.alone; held = given.held ∙ ap (appended before) told.0.joined },
+      record { text = given.text; followed = told.0.followed; held = given.held },
       told.1,
     )
 
@@ -279,14 +194,6 @@ summary_ends : (chip : ChipName) (number : ℕ) (is_closed : Bool) → Ends (Gen
 summary_ends chip number true = summed chip number
 summary_ends chip number false = summed_open chip number
 
--- the status of an analysis, whatever the chip
-analysed_status : (target : Target) (limits : Limits) (workers : ℕ) (image : List (Option ℕ)) (answered : Status) (report : List ℕ) (journal : List Event)
-    → IsAnalysedOn target limits workers image answered report journal → (is_closed : Bool) × (status_of_analysis is_closed ≡ answered)
-analysed_status (Msp430 ram) limits workers image answered report journal is =
-    (are_closed (last_works (msp430_analysis (msp430_setting ram limits image)) journal), sym is.status_is)
-analysed_status Mcs51 limits workers image answered report journal is =
-    (are_closed (last_works (mcs51_analysis (mcs51_setting limits image)) journal), sym is.status_is)
-
 -- the statuses of what is answered to assertions
 decision_ends : (task : Task) (broken : List Broken) → Ends (Assert task) (status_of_broken broken)
 decision_ends task [] = kept_all task
@@ -294,21 +201,15 @@ decision_ends task (b ∷ broken) = broke task
 
 decided_ends : {A : Type 0} (text_of : ℕ → List ℕ → List ℕ) (analysis : Analysis A) (task : Task) (workers : ℕ) (list : List (ℕ × Assertion)) (answered : Status)
     (text : List ℕ) (journal : List Event) → IsDecided text_of analysis workers list answered text journal → Ends (Assert task) answered
-decided_ends text_of analysis task workers list answered text journal (reported is left told text_is) =
+decided_ends text_of analysis task workers list answered text journal (reported is bounded left told text_is) =
     subst (Ends (Assert task)) (sym told) (open_under_assertions task)
-decided_ends text_of analysis task workers list answered text journal (decided is none told text_is) =
+decided_ends text_of analysis task workers list answered text journal (decided is bounded none told text_is) =
     subst (Ends (Assert task)) (sym told) (decision_ends task (broken_in text_of analysis list journal))
 
-decided_on_ends : (task : Task) (target : Target) (image : List (Option ℕ)) (list : List (ℕ × Assertion)) (answered : Status) (text : List ℕ)
-    (journal : List Event) → IsDecidedOn target task.limits task.workers image list answered text journal → Ends (Assert task) answered
-decided_on_ends task (Msp430 ram) image list answered text journal is =
-    decided_ends msp430_text (msp430_analysis (msp430_setting ram task.limits image)) task task.workers list answered text journal is
-decided_on_ends task Mcs51 image list answered text journal is =
-    decided_ends mcs51_text (mcs51_analysis (mcs51_setting task.limits image)) task task.workers list answered text journal is
-
 asserted_ends : (task : Task) (image : List (Option ℕ)) (second : Option (List ℕ)) (answered : Status) (text : List ℕ) (journal : List Event)
-    → IsAsserted task image second answered text journal → Ends (Assert task) answered
-asserted_ends task image second answered text journal (asserted list read is) = decided_on_ends task task.target image list answered text journal is
+    → IsAssertedOn task image second answered text journal → Ends (Assert task) answered
+asserted_ends task image second answered text journal (asserted list read is) =
+    let f = family_of task.target image in decided_ends f.text_of (f.analysis task.limits) task task.workers list answered text journal is
 asserted_ends task image second answered text journal (unread line is told line_is none) = subst (Ends (Assert task)) (sym told) (refused_assertions task)
 asserted_ends task image second answered text journal (overlong is told line_is none) = subst (Ends (Assert task)) (sym told) (assertions_too_long task)
 
@@ -322,13 +223,6 @@ checked_ends text_of analysis texts task second answered text (judged is_closed 
 checked_ends text_of analysis texts task second answered text (lengthy is told line_is) =
     subst (Ends (Check task)) (sym told) (certificate_too_long task)
 
-checked_on_ends : (task : Task) (target : Target) (image : List (Option ℕ)) (second : Option (List ℕ)) (answered : Status) (text : List ℕ)
-    → IsCheckedOn target task.limits image second answered text → Ends (Check task) answered
-checked_on_ends task (Msp430 ram) image second answered text is =
-    checked_ends msp430_text (msp430_analysis (msp430_setting ram task.limits image)) (msp430_texts (device_of ram image)) task second answered text is
-checked_on_ends task Mcs51 image second answered text is =
-    checked_ends mcs51_text (mcs51_analysis (mcs51_setting task.limits image)) mcs51_texts task second answered text is
-
 run_reply_ends : (target : Target) (steps : ℕ) (run : List ℕ → Ended) (second : Option (List ℕ)) (answered : Status) (text : List ℕ)
     → IsRun run second answered text → Ends (Run target steps) answered
 run_reply_ends target steps run second answered text (ran script is told text_is) =
@@ -339,18 +233,45 @@ run_reply_ends target steps run second answered text (longer is told line_is) = 
 image_reply_ends : (reading : Reading) (image : List (Option ℕ)) (second : Option (List ℕ)) (answered : Status) (text : List ℕ) (journal : List Event)
     → IsImageReply reading image second answered text journal → Ends reading answered
 image_reply_ends (Analyse task) image second answered text journal is =
-    let told = has_report task.target task.limits task.workers task.cert image answered text journal is in
-    let status = analysed_status task.target task.limits task.workers image answered told.report journal told.analysed in
-    subst (Ends (Analyse task)) status.1 (analysis_ends task status.0)
+    let works = last_works ((family_of task.target image).analysis task.limits) journal in
+    subst (Ends (Analyse task)) (sym is.analysed.status_is) (analysis_ends task (are_closed works))
 image_reply_ends (Assert task) image second answered text journal is = asserted_ends task image second answered text journal is
-image_reply_ends (Check task) image second answered text journal is = checked_on_ends task task.target image second answered text is.0
+image_reply_ends (Check task) image second answered text journal is =
+    let f = family_of task.target image in checked_ends f.text_of (f.analysis task.limits) f.texts task second answered text is.0
 image_reply_ends (Disasm target) image second answered text journal is = subst (Ends (Disasm target)) (sym is.0) (disassembled target)
 image_reply_ends (Run target steps) image second answered text journal is =
     run_reply_ends target steps (run_under target steps image) second answered text is.0
 image_reply_ends (Gen chip number) image second answered text journal is =
-    let task = usual_task chip in
-    let status = analysed_status task.target task.limits task.workers image answered is.0 journal is.1 in
-    subst (Ends (Gen chip number)) status.1 (summary_ends chip number status.0)
+    let works = last_works ((family_of (usual_target chip) image).analysis usual_limits) journal in
+    subst (Ends (Gen chip number)) (sym is.1.status_is) (summary_ends chip number (are_closed works))
+
+-- what ends so tells no fault
+ends_quiet : (reading : Reading) (answered : Status) → Ends reading answered → TellsNoFault answered
+ends_quiet reading answered (closed task) = ((λ f. cc f), (λ f. cc f))
+ends_quiet reading answered (left_open task) = ((λ f. cc f), (λ f. cc f))
+ends_quiet reading answered (disassembled target) = ((λ f. cc f), (λ f. cc f))
+ends_quiet reading answered (ran_on target steps) = ((λ f. cc f), (λ f. cc f))
+ends_quiet reading answered (went_wild target steps) = ((λ f. cc f), (λ f. cc f))
+ends_quiet reading answered (lacked_a_choice target steps) = ((λ f. cc f), (λ f. cc f))
+ends_quiet reading answered (refused_script target steps) = ((λ f. cc f), (λ f. cc f))
+ends_quiet reading answered (script_too_long target steps) = ((λ f. cc f), (λ f. cc f))
+ends_quiet reading answered (kept_all task) = ((λ f. cc f), (λ f. cc f))
+ends_quiet reading answered (open_under_assertions task) = ((λ f. cc f), (λ f. cc f))
+ends_quiet reading answered (broke task) = ((λ f. cc f), (λ f. cc f))
+ends_quiet reading answered (refused_assertions task) = ((λ f. cc f), (λ f. cc f))
+ends_quiet reading answered (assertions_too_long task) = ((λ f. cc f), (λ f. cc f))
+ends_quiet reading answered (certified task) = ((λ f. cc f), (λ f. cc f))
+ends_quiet reading answered (refused_certificate task) = ((λ f. cc f), (λ f. cc f))
+ends_quiet reading answered (certificate_too_long task) = ((λ f. cc f), (λ f. cc f))
+ends_quiet reading answered (summed chip number) = ((λ f. cc f), (λ f. cc f))
+ends_quiet reading answered (summed_open chip number) = ((λ f. cc f), (λ f. cc f))
+
+pub reply_quiet : (reading : Reading) (input : Option (List ℕ)) (answered : Status) (text : List ℕ) (journal : List Event)
+    → IsReply reading input answered text journal → TellsNoFault answered
+reply_quiet reading input answered text journal (of_image image second gives reply) =
+    ends_quiet reading answered (image_reply_ends reading image second answered text journal reply)
+reply_quiet reading input answered text journal (of_bad line fault bad is line_is none) = ((λ f. cc (is, f)), (λ f. cc (is, f)))
+reply_quiet reading input answered text journal (of_long long is line_is none) = ((λ f. cc (is, f)), (λ f. cc (is, f)))
 
 -- an analysis alone leaves something open
 analyses_open : (reading : Reading) (answered : Status) → Ends reading answered → answered ≡ Open → Analyses reading
@@ -387,68 +308,45 @@ open_alone_lem reading input before after journal answers =
     let given = gives_reply reading Open input before after journal answers ((λ f. cc f), (λ f. cc f)) (λ f. cc f) in
     open_reply_analyses reading (input_of reading input) given.text journal given.reply
 
-open_reply : ShowMsp430 → ShowMcs51 → HaveRules → HaveOneImage → (task : Task) → IsRamRange (target_rules task.target)
+open_reply : HaveTruths → HaveRules → HaveOneImage → (task : Task) → IsRamRange (target_rules task.target)
     → EndsInMemory (target_rules task.target) → IsBounded (Analyse task)
     → (input : Option (List ℕ)) (written : List ℕ) (journal : List Event)
     → IsReply (Analyse task) input Open written journal → (text : List ℕ) (image : List (Option ℕ)) → input ≡ Some text
     → Denotes (target_rules task.target) Blank (texts.lines_of text) image
-    → (is : HasReport task.target task.limits task.workers task.cert image Open written journal) × ShowsSitesOf task.target task.limits image journal is.report
-open_reply msp430 mcs51 rules one task range end few input written journal (of_image other second gives reply) text image e denoted =
+    → (is : IsReportedOn task.target task.limits task.workers task.cert image Open written journal) × ShowsSitesOf task.target task.limits image journal is.report
+open_reply truths rules one task range end few input written journal (of_image other second gives reply) text image e denoted =
     let is = analysed one task input second Open written journal text image other gives reply e denoted in
-    (is, shows_image msp430 mcs51 task.target task.limits task.workers image is.report journal (given_image rules task text image range end few denoted) is.analysed)
-open_reply msp430 mcs51 rules one task range end few input written journal (of_bad line fault bad is line_is none) text image e denoted = absurd (cc)
-open_reply msp430 mcs51 rules one task range end few input written journal (of_long long is line_is none) text image e denoted = absurd (cc)
+    (is, shows_image truths task.target task.limits task.workers image is.report journal (given_image rules task text image range end few denoted) is.analysed)
+open_reply truths rules one task range end few input written journal (of_bad line fault bad is line_is none) text image e denoted = absurd (cc)
+open_reply truths rules one task range end few input written journal (of_long long is line_is none) text image e denoted = absurd (cc)
 
-pub open_lem : ShowMsp430 → ShowMcs51 → HaveRules → HaveOneImage
+pub open_lem : HaveTruths → HaveRules → HaveOneImage
     → (task : Task) (input before after : Option (List ℕ)) (journal : List Event)
     → IsRamRange (target_rules task.target) → EndsInMemory (target_rules task.target) → IsBounded (Analyse task)
     → Answers (Analyse task) Open input before after journal
-    → ReportsOn task input before after (λ image report. ShowsSitesOf task.target task.limits image journal report)
-open_lem msp430 mcs51 rules one task input before after journal range end few answers text image e denoted =
+    → ReportsOn task input before after journal (λ image report. ShowsSitesOf task.target task.limits image journal report)
+open_lem truths rules one task input before after journal range end few answers text image e denoted =
     let given = gives_reply (Analyse task) Open input before after journal answers ((λ f. cc f), (λ f. cc f)) (λ f. cc f) in
-    let told = open_reply msp430 mcs51 rules one task range end few input given.text journal given.reply text image e denoted in (
+    let told = open_reply truths rules one task range end few input given.text journal given.reply text image e denoted in (
       told.0.report,
-      record { behind = told.0.behind; alone = told.0.alone; held = given.held ∙ ap (appended before) told.0.joined },
+      record { text = given.text; followed = told.0.followed; held = given.held },
       told.1,
     )
 
 -- ASSERTIONS
 
--- a list of which a closed book breaks nothing holds of every run of a chip's programs
-abbrev HoldRuns : {B S A : Type 0} → (B → Type 0) → (B → Machine S) → (B → Analysis A) → Type 0
-HoldRuns {B} program machine analysis = (base : B) (text_of : ℕ → List ℕ → List ℕ) (list : List (ℕ × Assertion)) (journal : List Event) → program base
-    → IsLegalJournal (analysis base) journal → IsFinished (replay (analysis base) journal)
-    → are_closed (last_works (analysis base) journal) ≡ true
-    → broken_in text_of (analysis base) list journal ≡ [] → Holds (machine base) list
-
-abbrev HoldMsp430 : Type 0
-HoldMsp430 = HoldRuns IsMsp430Program msp430_machine_if msp430_analysis
-
-abbrev HoldMcs51 : Type 0
-HoldMcs51 = HoldRuns IsMcs51Program mcs51_machine_if mcs51_analysis
-
 none_broken : (list : List Broken) → Done ≡ status_of_broken list → list ≡ []
 none_broken [] e = refl
 none_broken (b ∷ list) e = absurd (cc)
 
-holds_of : {B S A : Type 0} (program : B → Type 0) (machine : B → Machine S) (analysis : B → Analysis A) → HoldRuns program machine analysis
-    → (base : B) (text_of : ℕ → List ℕ → List ℕ) (workers : ℕ) (list : List (ℕ × Assertion)) (text : List ℕ) (journal : List Event)
-    → program base
-    → IsDecided text_of (analysis base) workers list Done text journal → Holds (machine base) list
-holds_of program machine analysis hold base text_of workers list text journal is_program (reported is left told text_is) = absurd (cc)
-holds_of program machine analysis hold base text_of workers list text journal is_program (decided is none told text_is) =
-    hold base text_of list journal is_program is.legal is.finished none (none_broken (broken_in text_of (analysis base) list journal) told)
-
-holds_image : HoldMsp430 → HoldMcs51
-    → (target : Target) (limits : Limits) (workers : ℕ) (image : List (Option ℕ)) (list : List (ℕ × Assertion)) (text : List ℕ)
+holds_image : HaveTruths → (target : Target) (limits : Limits) (workers : ℕ) (image : List (Option ℕ)) (list : List (ℕ × Assertion)) (text : List ℕ)
     (journal : List Event) → IsGiven target limits image
     → IsDecidedOn target limits workers image list Done text journal → HoldOn target image list
-holds_image msp430 mcs51 (Msp430 ram) limits workers image list text journal given is =
-    holds_of IsMsp430Program msp430_machine_if msp430_analysis msp430 (msp430_setting ram limits image) msp430_text
-    workers list text journal (is_msp430 ram limits image given) is
-holds_image msp430 mcs51 Mcs51 limits workers image list text journal given is =
-    holds_of IsMcs51Program mcs51_machine_if mcs51_analysis mcs51 (mcs51_setting limits image) mcs51_text
-    workers list text journal (is_mcs51 limits image given) is
+holds_image truths target limits workers image list text journal given (reported is bounded left told text_is) = absurd (cc)
+holds_image truths target limits workers image list text journal given (decided is bounded none told text_is) =
+    let f = family_of target image in
+    (truths target limits image given).holds list journal is.legal is.finished none
+    (none_broken (broken_in f.text_of (f.analysis limits) list journal) told)
 
 -- what is told of a second text that the input gives
 told_second : {P : List ℕ → Type 0} (rules : Rules) (input second : Option (List ℕ)) (image : List (Option ℕ)) (text : List ℕ)
@@ -459,12 +357,12 @@ told_second {P} rules (Some read) second image text e gives told =
     let same : read ≡ text = same_Some read text e in
     (gives.0, subst (λ t. Gives rules Second t image gives.0) same gives.2, subst (λ s. IfSome s P) gives.1 told)
 
-asserted_image : HoldMsp430 → HoldMcs51 → HaveRules → (task : Task) → IsRamRange (target_rules task.target)
+asserted_image : HaveTruths → HaveRules → (task : Task) → IsRamRange (target_rules task.target)
     → EndsInMemory (target_rules task.target)
     → IsBounded (Assert task) → (input second : Option (List ℕ)) (image : List (Option ℕ)) (report : List ℕ) (journal : List Event)
-    → InputGives (target_rules task.target) Second input second image → IsAsserted task image second Done report journal
+    → InputGives (target_rules task.target) Second input second image → IsAssertedOn task image second Done report journal
     → HoldsOf task.target input
-asserted_image msp430 mcs51 rules task range end few input second image report journal gives (asserted list read is) text e =
+asserted_image truths rules task range end few input second image report journal gives (asserted list read is) text e =
     let behind = told_second {P = λ t. AreAsserted (spaces_of task.target) t list} (target_rules task.target) input second image text e gives read in
     let given : IsGiven task.target task.limits image = record {
       read = rules (target_rules task.target) Second (texts.lines_of behind.1.front) image behind.1.denoted;
@@ -472,47 +370,94 @@ asserted_image msp430 mcs51 rules task range end few input second image report j
       top = end;
       calls = few.0;
     } in
-    (image, behind.0, list, behind.1, behind.2.read, holds_image msp430 mcs51 task.target task.limits task.workers image list report journal given is)
-asserted_image msp430 mcs51 rules task range end few input second image report journal gives (unread line is told line_is none) text e = absurd (cc)
-asserted_image msp430 mcs51 rules task range end few input second image report journal gives (overlong is told line_is none) text e = absurd (cc)
+    (image, behind.0, list, behind.1, behind.2.read, holds_image truths task.target task.limits task.workers image list report journal given is)
+asserted_image truths rules task range end few input second image report journal gives (unread line is told line_is none) text e = absurd (cc)
+asserted_image truths rules task range end few input second image report journal gives (overlong is told line_is none) text e = absurd (cc)
 
-asserted_reply : HoldMsp430 → HoldMcs51 → HaveRules → (task : Task) → IsRamRange (target_rules task.target)
+asserted_reply : HaveTruths → HaveRules → (task : Task) → IsRamRange (target_rules task.target)
     → EndsInMemory (target_rules task.target)
     → IsBounded (Assert task) → (input : Option (List ℕ)) (report : List ℕ) (journal : List Event)
     → IsReply (Assert task) input Done report journal
     → HoldsOf task.target input
-asserted_reply msp430 mcs51 rules task range end few input report journal (of_image image second gives reply) text e =
-    asserted_image msp430 mcs51 rules task range end few input second image report journal gives reply text e
-asserted_reply msp430 mcs51 rules task range end few input report journal (of_bad line fault bad is line_is none) text e = absurd (cc)
-asserted_reply msp430 mcs51 rules task range end few input report journal (of_long long is line_is none) text e = absurd (cc)
+asserted_reply truths rules task range end few input report journal (of_image image second gives reply) text e =
+    asserted_image truths rules task range end few input second image report journal gives reply text e
+asserted_reply truths rules task range end few input report journal (of_bad line fault bad is line_is none) text e = absurd (cc)
+asserted_reply truths rules task range end few input report journal (of_long long is line_is none) text e = absurd (cc)
 
-pub asserted_lem : HoldMsp430 → HoldMcs51 → HaveRules → (task : Task) (input before after : Option (List ℕ)) (journal : List Event)
+pub asserted_lem : HaveTruths → HaveRules → (task : Task) (input before after : Option (List ℕ)) (journal : List Event)
     → IsRamRange (target_rules task.target) → EndsInMemory (target_rules task.target) → IsBounded (Assert task)
     → Answers (Assert task) Done input before after journal → HoldsOf task.target input
-asserted_lem msp430 mcs51 rules task input before after journal range end few answers =
+asserted_lem truths rules task input before after journal range end few answers =
     let given = gives_reply (Assert task) Done input before after journal answers ((λ f. cc f), (λ f. cc f)) (λ f. cc f) in
-    asserted_reply msp430 mcs51 rules task range end few input given.text journal given.reply
+    asserted_reply truths rules task range end few input given.text journal given.reply
+
+-- what is left open under assertions
+not_open : (list : List Broken) → Open ≡ status_of_broken list → ⊥
+not_open [] e = cc
+not_open (b ∷ list) e = cc
+
+shows_decided : HaveTruths → (target : Target) (limits : Limits) (workers : ℕ) (image : List (Option ℕ)) (list : List (ℕ × Assertion)) (text : List ℕ)
+    (journal : List Event) → IsGiven target limits image
+    → IsDecidedOn target limits workers image list Open text journal → ShowsSitesOf target limits image journal text
+shows_decided truths target limits workers image list text journal given (reported is bounded left told text_is) =
+    subst (ShowsSitesOf target limits image journal) (sym text_is) ((truths target limits image given).shows journal is.legal is.finished left)
+shows_decided truths target limits workers image list text journal given (decided is bounded none told text_is) =
+    let f = family_of target image in absurd (not_open (broken_in f.text_of (f.analysis limits) list journal) told)
+
+-- an open report under assertions, with the image and what stands behind it
+pub record IsLeftOpen (task : Task) (text report : List ℕ) (journal : List Event) : Type 0 where
+  pub image : List (Option ℕ)
+  pub second : List ℕ
+  pub gives : Gives (target_rules task.target) Second text image second
+  pub shows : ShowsSitesOf task.target task.limits image journal report
+
+open_image : HaveTruths → HaveRules → (task : Task) → IsRamRange (target_rules task.target)
+    → EndsInMemory (target_rules task.target)
+    → IsBounded (Assert task) → (input second : Option (List ℕ)) (image : List (Option ℕ)) (report : List ℕ) (journal : List Event)
+    → InputGives (target_rules task.target) Second input second image → IsAssertedOn task image second Open report journal
+    → (text : List ℕ) → input ≡ Some text → IsLeftOpen task text report journal
+open_image truths rules task range end few input second image report journal gives (asserted list read is) text e =
+    let behind = told_second {P = λ t. AreAsserted (spaces_of task.target) t list} (target_rules task.target) input second image text e gives read in
+    let given : IsGiven task.target task.limits image = record {
+      read = rules (target_rules task.target) Second (texts.lines_of behind.1.front) image behind.1.denoted;
+      ram = range;
+      top = end;
+      calls = few.0;
+    } in record {
+      image = image;
+      second = behind.0;
+      gives = behind.1;
+      shows = shows_decided truths task.target task.limits task.workers image list report journal given is;
+    }
+open_image truths rules task range end few input second image report journal gives (unread line is told line_is none) text e = absurd (cc)
+open_image truths rules task range end few input second image report journal gives (overlong is told line_is none) text e = absurd (cc)
+
+open_asserted : HaveTruths → HaveRules → (task : Task) → IsRamRange (target_rules task.target)
+    → EndsInMemory (target_rules task.target)
+    → IsBounded (Assert task) → (input : Option (List ℕ)) (report : List ℕ) (journal : List Event)
+    → IsReply (Assert task) input Open report journal
+    → (text : List ℕ) → input ≡ Some text → IsLeftOpen task text report journal
+open_asserted truths rules task range end few input report journal (of_image image second gives reply) text e =
+    open_image truths rules task range end few input second image report journal gives reply text e
+open_asserted truths rules task range end few input report journal (of_bad line fault bad is line_is none) text e = absurd (cc)
+open_asserted truths rules task range end few input report journal (of_long long is line_is none) text e = absurd (cc)
+
+pub left_open_lem : HaveTruths → HaveRules → (task : Task) (input before after : Option (List ℕ)) (journal : List Event)
+    → IsRamRange (target_rules task.target) → EndsInMemory (target_rules task.target) → IsBounded (Assert task)
+    → Answers (Assert task) Open input before after journal → LeavesOpen task input before after journal
+left_open_lem truths rules task input before after journal range end few answers text e =
+    let given = gives_reply (Assert task) Open input before after journal answers ((λ f. cc f), (λ f. cc f)) (λ f. cc f) in
+    let is = open_asserted truths rules task range end few input given.text journal given.reply text e in
+    (is.image, is.second, given.text, is.gives, given.held, is.shows)
 
 -- CERTIFICATES
-
--- the report that is told of a closed table covers every run of a chip's programs
-abbrev VerdictsCover : {B S A : Type 0} → (B → Type 0) → (B → Machine S) → (B → Analysis A) → (B → StateTexts A) → Type 0
-VerdictsCover {B} program machine analysis texts = (base : B) (text_of : ℕ → List ℕ → List ℕ) (text told : List ℕ) → program base
-    → IsVerdict text_of (analysis base) (texts base) text true told → CoversEveryRun (machine base) text_of told
-
-abbrev VerdictsMsp430 : Type 0
-VerdictsMsp430 = VerdictsCover IsMsp430Program msp430_machine_if msp430_analysis
-    (λ (setting : Msp430Setting). msp430_texts setting.device)
-
-abbrev VerdictsMcs51 : Type 0
-VerdictsMcs51 = VerdictsCover IsMcs51Program mcs51_machine_if mcs51_analysis (λ (setting : Mcs51Setting). mcs51_texts)
 
 done_closed : (is_closed : Bool) → Done ≡ status_of_verdict is_closed → is_closed ≡ true
 done_closed true e = refl
 done_closed false e = absurd (cc)
 
 -- the verdict that Done tells
-abbrev IsClosedVerdict : {A : Type 0} → (text_of : ℕ → List ℕ → List ℕ) → Analysis A → StateTexts A
+abbrev pub IsClosedVerdict : {A : Type 0} → (text_of : ℕ → List ℕ → List ℕ) → Analysis A → StateTexts A
     → (second : Option (List ℕ)) → (report : List ℕ) → Type 0
 IsClosedVerdict text_of analysis texts second report = IfSome second (λ t. IsVerdict text_of analysis texts t true report)
 
@@ -522,42 +467,39 @@ verdict_of : {A : Type 0} (text_of : ℕ → List ℕ → List ℕ) (analysis : 
 verdict_of text_of analysis texts None is_closed report same is = tt
 verdict_of text_of analysis texts (Some t) is_closed report same is = subst (λ c. IsVerdict text_of analysis texts t c report) same is.verdict
 
-closed_verdict : {A : Type 0} (text_of : ℕ → List ℕ → List ℕ) (analysis : Analysis A) (texts : StateTexts A) (second : Option (List ℕ)) (report : List ℕ)
+pub closed_verdict : {A : Type 0} (text_of : ℕ → List ℕ → List ℕ) (analysis : Analysis A) (texts : StateTexts A) (second : Option (List ℕ)) (report : List ℕ)
     → IsChecked text_of analysis texts second Done report → IsClosedVerdict text_of analysis texts second report
 closed_verdict text_of analysis texts second report (judged is_closed is told) =
     verdict_of text_of analysis texts second is_closed report (done_closed is_closed told) is
 closed_verdict text_of analysis texts second report (lengthy is told line_is) = absurd (cc)
 
-certified_image : VerdictsMsp430 → VerdictsMcs51
+certified_image : HaveTruths
     → (target : Target) (limits : Limits) (image : List (Option ℕ)) (input second : Option (List ℕ))
     (report text : List ℕ) → input ≡ Some text → InputGives (target_rules target) Second input second image
     → ((behind : List ℕ) → Gives (target_rules target) Second text image behind → IsGiven target limits image)
     → IsCheckedOn target limits image second Done report
-    → (behind : List ℕ) × Gives (target_rules target) Second text image behind × CoversRunsOf target image report
-certified_image msp430 mcs51 (Msp430 ram) limits image input second report text e gives given is =
-    let base = msp430_setting ram limits image in
-    let texts = msp430_texts (device_of ram image) in
-    let told = told_second {P = λ t. IsVerdict msp430_text (msp430_analysis base) texts t true report} (target_rules (Msp430 ram)) input second image text e
-    gives (closed_verdict msp430_text (msp430_analysis base) texts second report is) in
-    (told.0, told.1, msp430 base msp430_text told.0 report (is_msp430 ram limits image (given told.0 told.1)) told.2)
-certified_image msp430 mcs51 Mcs51 limits image input second report text e gives given is =
-    let base = mcs51_setting limits image in
-    let told = told_second {P = λ t. IsVerdict mcs51_text (mcs51_analysis base) mcs51_texts t true report} (target_rules Mcs51) input second image text e
-    gives (closed_verdict mcs51_text (mcs51_analysis base) mcs51_texts second report is) in
-    (told.0, told.1, mcs51 base mcs51_text told.0 report (is_mcs51 limits image (given told.0 told.1)) told.2)
+    → (behind : List ℕ) × Gives (target_rules target) Second text image behind × IsClosedCertOf target limits image behind
+    × CoversRunsOf target image report
+certified_image truths target limits image input second report text e gives given is =
+    let f = family_of target image in
+    let told = told_second {P = λ t. IsVerdict f.text_of (f.analysis limits) f.texts t true report} (target_rules target) input second image text e
+    gives (closed_verdict f.text_of (f.analysis limits) f.texts second report is) in
+    let true_of = truths target limits image (given told.0 told.1) in
+    (told.0, told.1, true_of.closes told.0 report told.2, true_of.certifies told.0 report told.2)
 
 -- the image of a certificate whose table is closed, with what stands behind it
-pub record IsCertified (target : Target) (text report : List ℕ) : Type 0 where
+pub record IsCertified (target : Target) (limits : Limits) (text report : List ℕ) : Type 0 where
   pub image : List (Option ℕ)
   pub second : List ℕ
   pub gives : Gives (target_rules target) Second text image second
+  pub closed : IsClosedCertOf target limits image second
   pub covers : CoversRunsOf target image report
 
-certified_reply : VerdictsMsp430 → VerdictsMcs51 → HaveRules → (task : Task) → IsRamRange (target_rules task.target)
+certified_reply : HaveTruths → HaveRules → (task : Task) → IsRamRange (target_rules task.target)
     → EndsInMemory (target_rules task.target) → IsBounded (Check task)
     → (input : Option (List ℕ)) (report : List ℕ) (journal : List Event) (text : List ℕ)
-    → input ≡ Some text → IsReply (Check task) input Done report journal → IsCertified task.target text report
-certified_reply msp430 mcs51 rules task range end few input report journal text e (of_image image second gives reply) =
+    → input ≡ Some text → IsReply (Check task) input Done report journal → IsCertified task.target task.limits text report
+certified_reply truths rules task range end few input report journal text e (of_image image second gives reply) =
     let read : (behind : List ℕ) → Gives (target_rules task.target) Second text image behind → IsGiven task.target task.limits image
     = λ behind is. record {
       read = rules (target_rules task.target) Second (texts.lines_of is.front) image is.denoted;
@@ -565,18 +507,18 @@ certified_reply msp430 mcs51 rules task range end few input report journal text 
       top = end;
       calls = few.0;
     } in
-    let is = certified_image msp430 mcs51 task.target task.limits image input second report text e gives read reply.0 in
-    record { image = image; second = is.0; gives = is.1; covers = is.2 }
-certified_reply msp430 mcs51 rules task range end few input report journal text e (of_bad line fault bad is line_is none) = absurd (cc)
-certified_reply msp430 mcs51 rules task range end few input report journal text e (of_long long is line_is none) = absurd (cc)
+    let is = certified_image truths task.target task.limits image input second report text e gives read reply.0 in
+    record { image = image; second = is.0; gives = is.1; closed = is.2; covers = is.3 }
+certified_reply truths rules task range end few input report journal text e (of_bad line fault bad is line_is none) = absurd (cc)
+certified_reply truths rules task range end few input report journal text e (of_long long is line_is none) = absurd (cc)
 
-pub certified_lem : VerdictsMsp430 → VerdictsMcs51 → HaveRules → (task : Task) (input before after : Option (List ℕ)) (journal : List Event)
+pub certified_lem : HaveTruths → HaveRules → (task : Task) (input before after : Option (List ℕ)) (journal : List Event)
     → IsRamRange (target_rules task.target) → EndsInMemory (target_rules task.target) → IsBounded (Check task)
-    → Answers (Check task) Done input before after journal → CertifiesOn task.target input before after
-certified_lem msp430 mcs51 rules task input before after journal range end few answers text e =
+    → Answers (Check task) Done input before after journal → CertifiesOn task input before after
+certified_lem truths rules task input before after journal range end few answers text e =
     let given = gives_reply (Check task) Done input before after journal answers ((λ f. cc f), (λ f. cc f)) (λ f. cc f) in
-    let is = certified_reply msp430 mcs51 rules task range end few input given.text journal text e given.reply in
-    (is.image, is.second, given.text, is.gives, given.held, is.covers)
+    let is = certified_reply truths rules task range end few input given.text journal text e given.reply in
+    (is.image, is.second, given.text, is.gives, given.held, (is.closed, is.covers))
 
 abbrev pub HaveNotBoth : Type 0
 HaveNotBoth = (rules : Rules) (tail : Tail) (lines : List (List ℕ)) (image : List (Option ℕ)) (line : ℕ) (fault : HexFault)

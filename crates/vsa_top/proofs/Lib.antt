@@ -3,6 +3,7 @@ pub mod AssertedLemmas
 pub mod CheckedLemmas
 pub mod HeadlineLemmas
 pub mod InputLemmas
+pub mod LawsLemmas
 pub mod OwnLemmas
 pub mod ReplyLemmas
 pub mod ScriptLemmas

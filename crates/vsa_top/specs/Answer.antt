@@ -16,26 +16,21 @@ use Rattle.run_trace.specs.declared.trace.End.TheVariants as ended
 use Rattle.run_trace.specs.Trace.{Ended}
 use Rattle.report_bytes.specs.Deepest.{deepest_of}
 use Rattle.report_bytes.specs.Report.{are_closed, counts_of, items_of, last_works, report_of_journal, reported_lines}
-use Rattle.mcs51_flow.specs.Standing.{instr_text as mcs51_text}
-use Rattle.mcs51_flow.specs.Chip.{mcs51_analysis}
-use Rattle.msp430_flow.specs.Standing.{instr_text as msp430_text}
-use Rattle.msp430_flow.specs.Chip.{msp430_analysis}
 use Rattle.disassembly.specs.Listing.{IsDisassembly}
 use Rattle.cert_text.specs.Writing.{IsCert}
 use Rattle.cert_verdict.specs.Verdict.{IsVerdict}
 use Rattle.book_rules.specs.Kept.{nodes_of}
 use Rattle.state_text.specs.Texts.{StateTexts}
-use Rattle.mcs51_flow.specs.Texts.{mcs51_texts}
-use Rattle.msp430_flow.specs.Texts.{msp430_texts}
 use Rattle.assert_check.specs.declared.assertion.Assertion.{Assertion}
 use Rattle.item_lines.specs.Line.{item_line_of}
 use Rattle.vsa_top.specs.Asserted.{AreAsserted, IsUnread, broken_in, broken_text, spaces_of, status_of_broken}
+use Rattle.vsa_top.specs.Family.{family_of}
 use Rattle.vsa_top.specs.Input.{InputGives, IsBad, IsTooLong, input_of}
 use Rattle.vsa_top.specs.Scripts.{IsRefused, IsScript, second_limit}
 use Rattle.vsa_top.specs.Summary.{summary}
 use Rattle.vsa_top.specs.Mcs51.{mcs51_reads, mcs51_run}
 use Rattle.vsa_top.specs.Msp430.{msp430_reads, msp430_run}
-use Rattle.vsa_top.specs.Settings.{device_of, mcs51_setting, msp430_setting}
+use Rattle.vsa_top.specs.Settings.{device_of}
 use Rattle.vsa_words.specs.Words.{rules_of, usual_limits, usual_target, tail_of}
 use Rattle.image.specs.declared.chip_name.ChipName.{ChipName}
 use Rattle.vsa_top.specs.declared.outcome.Status.{Status}
@@ -104,10 +99,8 @@ run_under Mcs51 steps image script = mcs51_run image script steps
 
 -- the reply to an image that is analysed: the report of the chip with this image, by so many workers under these limits
 abbrev pub IsAnalysedOn : Target → Limits → (workers : ℕ) → List (Option ℕ) → Status → List ℕ → List Event → Type 0
-IsAnalysedOn (Msp430 ram) limits workers image replied text journal =
-    IsAnalysed msp430_text (msp430_analysis (msp430_setting ram limits image)) workers replied text journal
-IsAnalysedOn Mcs51 limits workers image replied text journal =
-    IsAnalysed mcs51_text (mcs51_analysis (mcs51_setting limits image)) workers replied text journal
+IsAnalysedOn target limits workers image replied text journal =
+    let f = family_of target image in IsAnalysed f.text_of (f.analysis limits) workers replied text journal
 
 -- the text is the report, or the report with the certificate of the book behind it that the journal leads to
 abbrev pub IsFollowed : {A : Type 0} → Analysis A → StateTexts A → (cert : Bool) → List Event → (report text : List ℕ) → Type 0
@@ -124,38 +117,30 @@ pub record IsReported {A : Type 0} (text_of : ℕ → List ℕ → List ℕ) (an
 
 -- that of the chip with this image, by so many workers under these limits
 abbrev pub IsReportedOn : Target → Limits → (workers : ℕ) → (cert : Bool) → List (Option ℕ) → Status → List ℕ → List Event → Type 0
-IsReportedOn (Msp430 ram) limits workers cert image replied text journal =
-    IsReported msp430_text (msp430_analysis (msp430_setting ram limits image)) (msp430_texts (device_of ram image)) workers cert replied text journal
-IsReportedOn Mcs51 limits workers cert image replied text journal =
-    IsReported mcs51_text (mcs51_analysis (mcs51_setting limits image)) mcs51_texts workers cert replied text journal
+IsReportedOn target limits workers cert image replied text journal =
+    let f = family_of target image in IsReported f.text_of (f.analysis limits) f.texts workers cert replied text journal
 
 -- The reply to a program that is analysed under assertions: its report where it leaves a site open, else what it breaks.
 pub data IsDecided {A : Type 0} (text_of : ℕ → List ℕ → List ℕ) (analysis : Analysis A) (workers : ℕ) (list : List (ℕ × Assertion))
     (replied : Status) (text : List ℕ) (journal : List Event) : Type 0 where
-  reported : IsAnalysis analysis workers journal → are_closed (last_works analysis journal) ≡ false → replied ≡ status.Open
-      → text ≡ report_of_journal text_of analysis journal → IsDecided text_of analysis workers list replied text journal
-  decided : IsAnalysis analysis workers journal → are_closed (last_works analysis journal) ≡ true
+  reported : IsAnalysis analysis workers journal → AreBounded analysis journal → are_closed (last_works analysis journal) ≡ false
+      → replied ≡ status.Open → text ≡ report_of_journal text_of analysis journal → IsDecided text_of analysis workers list replied text journal
+  decided : IsAnalysis analysis workers journal → AreBounded analysis journal → are_closed (last_works analysis journal) ≡ true
       → replied ≡ status_of_broken (broken_in text_of analysis list journal)
       → text ≡ broken_text (item_line_of text_of) (broken_in text_of analysis list journal)
       → IsDecided text_of analysis workers list replied text journal
 
--- that of the chip with this image, by so many workers under these limits
-abbrev pub IsDecidedOn : Target → Limits → (workers : ℕ) → List (Option ℕ) → List (ℕ × Assertion) → Status → List ℕ → List Event → Type 0
-IsDecidedOn (Msp430 ram) limits workers image list replied text journal =
-    IsDecided msp430_text (msp430_analysis (msp430_setting ram limits image)) workers list replied text journal
-IsDecidedOn Mcs51 limits workers image list replied text journal =
-    IsDecided mcs51_text (mcs51_analysis (mcs51_setting limits image)) workers list replied text journal
-
--- The reply to an image with a second text: that to the assertions which stand there, or the first line that is of no
+-- The reply to a program with a second text: that to the assertions which stand there, or the first line that is of no
 -- form, or that there is too much.
-pub data IsAsserted (task : Task) (image : List (Option ℕ)) (second : Option (List ℕ)) (replied : Status) (text : List ℕ) (journal : List Event) : Type 0 where
+pub data IsAsserted {A : Type 0} (text_of : ℕ → List ℕ → List ℕ) (analysis : Analysis A) (task : Task)
+    (second : Option (List ℕ)) (replied : Status) (text : List ℕ) (journal : List Event) : Type 0 where
   asserted : (list : List (ℕ × Assertion)) → IfSome second (λ t. AreAsserted (spaces_of task.target) t list)
-      → IsDecidedOn task.target task.limits task.workers image list replied text journal
-      → IsAsserted task image second replied text journal
+      → IsDecided text_of analysis task.workers list replied text journal
+      → IsAsserted text_of analysis task second replied text journal
   unread : (line : ℕ) → IfSome second (λ t. IsUnread (spaces_of task.target) t line) → replied ≡ status.BadCert → text ≡ no_line line
-      → journal ≡ [] → IsAsserted task image second replied text journal
+      → journal ≡ [] → IsAsserted text_of analysis task second replied text journal
   overlong : IfSome second (λ t. second_limit < length t) → replied ≡ status.TooLong → text ≡ long_line → journal ≡ []
-      → IsAsserted task image second replied text journal
+      → IsAsserted text_of analysis task second replied text journal
 
 -- the text is within the limit, and this is its verdict as a certificate
 pub record IsJudged {A : Type 0} (text_of : ℕ → List ℕ → List ℕ) (analysis : Analysis A) (texts : StateTexts A) (certificate : List ℕ)
@@ -177,22 +162,13 @@ pub data IsChecked {A : Type 0} (text_of : ℕ → List ℕ → List ℕ) (analy
 
 -- that of the chip with this image, under these limits
 abbrev pub IsCheckedOn : Target → Limits → List (Option ℕ) → (second : Option (List ℕ)) → Status → List ℕ → Type 0
-IsCheckedOn (Msp430 ram) limits image second replied text =
-    IsChecked msp430_text (msp430_analysis (msp430_setting ram limits image)) (msp430_texts (device_of ram image)) second replied text
-IsCheckedOn Mcs51 limits image second replied text =
-    IsChecked mcs51_text (mcs51_analysis (mcs51_setting limits image)) mcs51_texts second replied text
+IsCheckedOn target limits image second replied text =
+    let f = family_of target image in IsChecked f.text_of (f.analysis limits) f.texts second replied text
 
 -- the summary of the report of the book that a journal leads to
 abbrev pub summary_of_journal : {A : Type 0} → (ℕ → List ℕ → List ℕ) → Analysis A → ChipName → (number : ℕ) → List Event → List ℕ
 summary_of_journal text_of analysis chip number journal = let works = last_works analysis journal in
     summary chip number (are_closed works) (deepest_of None (items_of works)) (counts_of (reported_lines text_of works))
-
--- that of the chip with this image, under these limits
-abbrev pub summary_on : Target → Limits → List (Option ℕ) → ChipName → (number : ℕ) → List Event → List ℕ
-summary_on (Msp430 ram) limits image chip number journal =
-    summary_of_journal msp430_text (msp430_analysis (msp430_setting ram limits image)) chip number journal
-summary_on Mcs51 limits image chip number journal =
-    summary_of_journal mcs51_text (mcs51_analysis (mcs51_setting limits image)) chip number journal
 
 -- the reply to a program that one worker analyses as a made one: the summary of its report
 abbrev pub IsSummary : {A : Type 0} → (ℕ → List ℕ → List ℕ) → Analysis A → ChipName → (number : ℕ) → Status → List ℕ → List Event → Type 0
@@ -200,28 +176,47 @@ IsSummary text_of analysis chip number replied text journal =
     (report : List ℕ) × IsAnalysed text_of analysis 1 replied report journal
     × (text ≡ summary_of_journal text_of analysis chip number journal)
 
--- that of the chip with this image, under these limits
-abbrev pub IsSummedOn : Target → Limits → List (Option ℕ) → ChipName → (number : ℕ) → Status → List ℕ → List Event → Type 0
-IsSummedOn target limits image chip number replied text journal =
-    (report : List ℕ) × IsAnalysedOn target limits 1 image replied report journal
-    × (text ≡ summary_on target limits image chip number journal)
+-- what is asked of a program that is analysed, by as many workers as the words may ask for
+abbrev pub IsOfProgram : Reading → Type 0
+IsOfProgram (Analyse task) = (1 ≤ task.workers) × (task.workers ≤ 16)
+IsOfProgram (Assert task) = (1 ≤ task.workers) × (task.workers ≤ 16)
+IsOfProgram (Check task) = Unit {0}
+IsOfProgram (Gen chip number) = Unit {0}
+IsOfProgram (Disasm target) = ⊥
+IsOfProgram (Run target steps) = ⊥
 
--- the reply to the image of a made program, which has the usual RAM and limits
-abbrev pub IsSummed : ChipName → (number : ℕ) → List (Option ℕ) → Status → List ℕ → List Event → Type 0
-IsSummed chip number image replied text journal =
-    IsSummedOn (usual_target chip) usual_limits image chip number replied text journal
+-- the reply to it
+abbrev pub IsProgramReply : {A : Type 0} → (ℕ → List ℕ → List ℕ) → Analysis A → StateTexts A → Reading
+    → (second : Option (List ℕ)) → Status → List ℕ → List Event → Type 0
+IsProgramReply text_of analysis texts (Analyse task) second replied text journal =
+    IsReported text_of analysis texts task.workers task.cert replied text journal
+IsProgramReply text_of analysis texts (Assert task) second replied text journal =
+    IsAsserted text_of analysis task second replied text journal
+IsProgramReply text_of analysis texts (Check task) second replied text journal =
+    IsChecked text_of analysis texts second replied text × (journal ≡ [])
+IsProgramReply text_of analysis texts (Gen chip number) second replied text journal =
+    IsSummary text_of analysis chip number replied text journal
+IsProgramReply text_of analysis texts (Disasm target) second replied text journal = ⊥
+IsProgramReply text_of analysis texts (Run target steps) second replied text journal = ⊥
+
+-- that of a chip with an image, under limits
+abbrev pub IsAskedOn : Target → Limits → List (Option ℕ) → Reading → (second : Option (List ℕ)) → Status → List ℕ → List Event → Type 0
+IsAskedOn target limits image reading second replied text journal =
+    let f = family_of target image in IsProgramReply f.text_of (f.analysis limits) f.texts reading second replied text journal
 
 -- the reply to an image
 abbrev pub IsImageReply : Reading → List (Option ℕ) → (second : Option (List ℕ)) → Status → List ℕ → List Event → Type 0
 IsImageReply (Analyse task) image second replied text journal =
-    IsReportedOn task.target task.limits task.workers task.cert image replied text journal
+    IsAskedOn task.target task.limits image (Analyse task) second replied text journal
+IsImageReply (Assert task) image second replied text journal =
+    IsAskedOn task.target task.limits image (Assert task) second replied text journal
+IsImageReply (Check task) image second replied text journal =
+    IsAskedOn task.target task.limits image (Check task) second replied text journal
+IsImageReply (Gen chip number) image second replied text journal =
+    IsAskedOn (usual_target chip) usual_limits image (Gen chip number) second replied text journal
 IsImageReply (Disasm target) image second replied text journal = (replied ≡ status.Done) × IsListing target image text × (journal ≡ [])
 IsImageReply (Run target steps) image second replied text journal =
     IsRun (run_under target steps image) second replied text × (journal ≡ [])
-IsImageReply (Assert task) image second replied text journal = IsAsserted task image second replied text journal
-IsImageReply (Check task) image second replied text journal =
-    IsCheckedOn task.target task.limits image second replied text × (journal ≡ [])
-IsImageReply (Gen chip number) image second replied text journal = IsSummed chip number image replied text journal
 
 -- The reply to words that are a reading, over the text that the input is, where it is told: that to the image which it
 -- gives, or its first faulty line, or that it is too long.

@@ -13,12 +13,10 @@ use Rattle.chip_analysis.specs.Analysis.{Analysis}
 use Rattle.item_lines.specs.Line.{item_line_of}
 use Rattle.chip_numbers.specs.declared.space.Space.{Space}
 use Rattle.chip_numbers.specs.declared.space.Space.TheVariants.{Mem, Ram, Sfr, Xram, Code}
-use Rattle.mcs51_flow.specs.Machine.{mcs51_machine}
-use Rattle.msp430_flow.specs.Machine.{msp430_machine}
 use Rattle.report_bytes.specs.Report.{last_works}
 use Rattle.book_rules.specs.declared.event.Event.{Event}
+use Rattle.vsa_top.specs.Family.{family_of}
 use Rattle.vsa_top.specs.Scripts.{second_limit}
-use Rattle.vsa_top.specs.Settings.{device_of}
 use Rattle.vsa_top.specs.declared.outcome.Status.{Status}
 use Rattle.vsa_top.specs.declared.outcome.Status.TheVariants as status
 use Rattle.vsa_top.specs.declared.script.ScriptRefusal.{ScriptRefusal}
@@ -86,5 +84,4 @@ broken_in text_of analysis list journal =
 
 -- the assertions hold of every run of the chip with this image
 abbrev pub HoldOn : Target → List (Option ℕ) → List (ℕ × Assertion) → Type 0
-HoldOn (Msp430 ram) image list = Holds (msp430_machine (device_of ram image)) list
-HoldOn Mcs51 image list = Holds (mcs51_machine image) list
+HoldOn target image list = Holds (family_of target image).machine list

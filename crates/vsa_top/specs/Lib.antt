@@ -1,8 +1,12 @@
 pub mod Alone
 pub mod Answer
 pub mod Asserted
+pub mod Certified
+pub mod Family
+pub mod Faults
 pub mod Headline
 pub mod Input
+pub mod Laws
 pub mod Mcs51
 pub mod Msp430
 pub mod Own

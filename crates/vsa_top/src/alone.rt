@@ -8,11 +8,8 @@ ghost use Rattle.vsa_top.specs.Input.{input_of};
 ghost use Rattle.vsa_top.specs.declared.outcome.Status.{Status as AStatus};
 ghost use Rattle.vsa_words.specs.declared.reading.Reading.{Reading as AReading};
 
-use cert_text::certificates_are_one;
+use crate::laws::families_have_laws;
 use ihex_read::image_or_fault;
-use mcs51_flow::Mcs51Chip;
-use msp430_flow::Msp430Chip;
-use worker_rounds::turns_are_one;
 
 /// An input that is told denotes one image, and one worker's journal over it is one alone. So where that tells an analysis
 /// there is one reply.
@@ -22,8 +19,5 @@ pub(crate) fn replies_are_one()
         → input_of reading input ≡ Some text → IsOneReply reading (Some text) answered before after journal }
 {
     image_or_fault();
-    turns_are_one::<Msp430Chip>();
-    turns_are_one::<Mcs51Chip>();
-    certificates_are_one::<Msp430Chip>();
-    certificates_are_one::<Mcs51Chip>();
+    families_have_laws();
 }

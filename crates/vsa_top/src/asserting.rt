@@ -1,36 +1,24 @@
 //! What is answered to assertions over a closed report.
 
-ghost use Rattle.std.specs.Prelude.{◌≡◌, ◌≢◌, ◌≤◌, ◌++◌, ℕ, true, List, [], flat_map, IfOk, IfErr, IfSome, OnOk};
+ghost use Rattle.std.specs.Prelude.{◌≡◌, ◌≢◌, ◌≤◌, ◌++◌, ℕ, flat_map, IfOk, IfErr, IfSome, OnOk};
 ghost use Rattle.std.specs.Map.{values_of};
 ghost use Rattle.assert_check.specs.Assertions.{broken_of};
-ghost use Rattle.assert_check.specs.Holding.{Holds};
-ghost use Rattle.assert_check.specs.declared.assertion.Assertion.{Assertion as AnAssertion};
 ghost use Rattle.item_lines.specs.Line.{item_line_of};
-ghost use Rattle.image.specs.Kept.{IsRamRange, IsReadUnder};
-ghost use Rattle.report_bytes.specs.Report.{are_closed, last_works};
-ghost use Rattle.book_rules.specs.Machine.{replay, IsFinished, IsLegalJournal};
-ghost use Rattle.book_rules.specs.declared.event.Event.{Event as AnEvent};
-ghost use Rattle.streams.specs.Stream.{HasRisen};
-ghost use Rattle.vsa_top.specs.Answer.{IsAnalysis, IsAsserted, IsDecided, IsDecidedOn, TellsNoFault};
-ghost use Rattle.vsa_top.specs.Asserted.{AreAsserted, LacksAssertions, broken_in, broken_text, fails_line, spaces_of, status_of_broken};
+ghost use Rattle.vsa_top.specs.Answer.{IsAnalysis, IsAsserted, IsDecided};
+ghost use Rattle.vsa_top.specs.Asserted.{AreAsserted, LacksAssertions, broken_text, fails_line, spaces_of, status_of_broken};
+ghost use Rattle.vsa_top.specs.Faults.{TellsFaults};
 ghost use Rattle.vsa_top.specs.Input.{begun_with};
-ghost use Rattle.vsa_words.specs.Words.{IsBounded, rules_of};
-ghost use Rattle.vsa_words.specs.declared.reading.Reading.TheVariants.{Assert};
 
 use crate::outcome::Status;
 use crate::reply::{NoReply, Reply, book_of, no_line, text_reply};
 use crate::script::ScriptRefusal;
 use crate::second::assertions_in;
-use assert_check::{Assertion, Broken, decide, unbroken_lists_hold};
+use assert_check::{Assertion, Broken, decide};
 use chip_law::LawfulChip;
 use chip_numbers::Space;
-use closed_book::{ClosedBook, read_closed_with_journal};
-use closing_law::closed_books_cover_runs;
+use closed_book::{ClosedBook, books_are_bounded, read_closed_with_journal};
 use dense_text::Text;
-use image::Image;
 use item_lines::{InstrText, put_item};
-use mcs51_flow::Mcs51Chip;
-use msp430_flow::Msp430Chip;
 use no_memory::Memory;
 use report_bytes::{closed_books_are_told, report_of};
 use round_core::{Book, Event};
@@ -118,6 +106,7 @@ fn decided<C: LawfulChip + InstrText>(
         → IsDecided (C.text_of chip.now) (C.analysis (C.base chip.now)) workers list.now reply.status reply.text reply.journal.items) }
 {
     closed_books_are_told::<C>();
+    books_are_bounded::<C>();
     match read_closed_with_journal(book) {
         Ok((closed, journal)) => decision(alloc, chip, &closed, journal, list),
         Err(book) => {
@@ -155,33 +144,6 @@ fn chip_decision<
     decided(alloc, chip, book, list)
 }
 
-/// What an image breaks, or its report.
-fn image_decision<R: Threads + Wait + Sync, G: Gate + Sync>(
-    rt: &R,
-    alloc: Global,
-    task: Task,
-    image: Image,
-    list: &[(u32, Assertion)],
-    gate: &G,
-) -> Result<Reply, Memory>
-    requires range { IsRamRange (rules_of (Assert task)) }
-    requires bounded { IsBounded (Assert task) }
-    requires kept { IsReadUnder (rules_of (Assert task)) image }
-    ensures { IfOk result (λ reply.
-        IsDecidedOn task.target task.limits task.workers image list.now reply.status reply.text reply.journal.items) }
-{
-    match task.target {
-        Target::Msp430 { ram } => {
-            let chip = Msp430Chip::new(alloc, image, ram, task.limits)?;
-            chip_decision(rt, alloc, &chip, task.workers, list, gate)
-        }
-        Target::Mcs51 => {
-            let chip = Mcs51Chip::new(alloc, image, task.limits)?;
-            chip_decision(rt, alloc, &chip, task.workers, list, gate)
-        }
-    }
-}
-
 /// The assertions on a chip that stand in a source's text behind the bytes that were read of it.
 fn assertions_on<S: Source>(
     alloc: Global,
@@ -193,9 +155,7 @@ fn assertions_on<S: Source>(
         (λ text. AreAsserted (spaces_of target) text list.items)) }
     ensures refused { IfErr result (λ error. IfSome (begun_with begun.now (S.left source.old))
         (λ text. LacksAssertions (spaces_of target) text error)) }
-    ensures cause { IfErr result (λ error. error ≡ ScriptRefusal.Failed → HasRisen (S.faults source.old) (S.faults source.new)) }
-    ensures quiet { OnOk result (S.faults source.new ≡ S.faults source.old) }
-    ensures quiet_refusal { IfErr result (λ error. error ≢ ScriptRefusal.Failed → S.faults source.new ≡ S.faults source.old) }
+    ensures faults { TellsFaults ScriptRefusal.Failed (S.faults source.old) (S.faults source.new) result }
 {
     match target {
         Target::Msp430 { .. } => assertions_in(alloc, source, begun, &[Space::Mem]),
@@ -208,28 +168,29 @@ fn assertions_on<S: Source>(
     }
 }
 
-/// What is answered to the assertions that stand behind an image text, of which so much was read.
-pub fn assertion_reply<R: Threads + Wait + Sync, S: Source, G: Gate + Sync>(
+/// What is answered to the assertions on a program that stand behind an image text, of which so much was read.
+pub fn assertion_reply<
+    R: Threads + Wait + Sync,
+    S: Source,
+    C: LawfulChip<Base: Send> + InstrText + Send + Sync,
+    G: Gate + Sync,
+>(
     rt: &R,
     alloc: Global,
+    chip: &C,
     task: Task,
-    image: Image,
     begun: &[u8],
     source: &mut S,
     gate: &G,
 ) -> Result<Reply, NoReply>
-    requires range { IsRamRange (rules_of (Assert task)) }
-    requires bounded { IsBounded (Assert task) }
-    requires kept { IsReadUnder (rules_of (Assert task)) image }
-    ensures no_fault { IfOk result (λ reply. TellsNoFault reply.status) }
-    ensures reply { IfOk result (λ reply.
-        IsAsserted task image (begun_with begun.now (S.left source.old)) reply.status reply.text reply.journal.items) }
-    ensures cause { IfErr result (λ error. error ≡ NoReply.ReadFault → HasRisen (S.faults source.old) (S.faults source.new)) }
-    ensures quiet { OnOk result (S.faults source.new ≡ S.faults source.old) }
-    ensures quiet_refusal { IfErr result (λ error. error ≢ NoReply.ReadFault → S.faults source.new ≡ S.faults source.old) }
+    requires some { 1 ≤ task.workers }
+    requires few { task.workers ≤ 16 }
+    ensures reply { (let b = C.base chip.now in IfOk result (λ reply. IsAsserted (C.text_of chip.now) (C.analysis b) task
+        (begun_with begun.now (S.left source.old)) reply.status reply.text reply.journal.items)) }
+    ensures faults { TellsFaults NoReply.ReadFault (S.faults source.old) (S.faults source.new) result }
 {
     match assertions_on(alloc, task.target, source, begun) {
-        Ok(list) => Ok(image_decision(rt, alloc, task, image, list.as_slice(), gate)?),
+        Ok(list) => Ok(chip_decision(rt, alloc, chip, task.workers, list.as_slice(), gate)?),
         Err(ScriptRefusal::Syntax { line }) => {
             let text = no_line(alloc, line)?;
             Ok(text_reply(alloc, Status::BadCert, text))
@@ -241,15 +202,4 @@ pub fn assertion_reply<R: Threads + Wait + Sync, S: Source, G: Gate + Sync>(
         Err(ScriptRefusal::Failed) => Err(NoReply::ReadFault),
         Err(ScriptRefusal::Memory) => Err(NoReply::Memory),
     }
-}
-
-/// Where a finished book without opens breaks no assertion of a list, the list holds of every run.
-pub fn assertions_hold<C: LawfulChip>()
-    ensures { (base : C.Base) (text_of : ℕ → List ℕ → List ℕ) (list : List (ℕ × AnAssertion)) (journal : List AnEvent)
-        → C.program base → IsLegalJournal (C.analysis base) journal → IsFinished (replay (C.analysis base) journal)
-        → are_closed (last_works (C.analysis base) journal) ≡ true
-        → broken_in text_of (C.analysis base) list journal ≡ [] → Holds (C.machine base) list }
-{
-    closed_books_cover_runs::<C>();
-    unbroken_lists_hold::<C>();
 }

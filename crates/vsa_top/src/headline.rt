@@ -1,8 +1,6 @@
 //! What an answer says of every run.
 
-ghost use Rattle.std.specs.Prelude.{◌≡◌, ◌≤◌, ℕ, true, Option, Some, List, ◌⊎◌};
-ghost use Rattle.cert_verdict.specs.Verdict.{IsVerdict};
-ghost use Rattle.report_text.specs.Promise.{CoversEveryRun};
+ghost use Rattle.std.specs.Prelude.{◌≡◌, ◌≤◌, ℕ, Option, Some, List, length, ◌⊎◌, ◌↔◌};
 ghost use Rattle.book_rules.specs.declared.event.Event.{Event as AnEvent};
 ghost use Rattle.vsa_top.specs.declared.outcome.Status.TheVariants.{Done, Memory, Open, ReadFault, WriteFault};
 ghost use Rattle.vsa_top.specs.declared.outcome.Status.{Status as AStatus};
@@ -15,26 +13,13 @@ ghost use Rattle.image.specs.declared.chip_name.ChipName.{ChipName as AChip};
 ghost use Rattle.vsa_words.specs.declared.reading.Reading.TheVariants.{Analyse, Assert, Check, Gen};
 ghost use Rattle.vsa_words.specs.declared.reading.Reading.{Reading as AReading};
 ghost use Rattle.vsa_words.specs.declared.reading.Task.{Task as ATask};
-ghost use Rattle.vsa_top.specs.Headline.{CertifiesOn, CoversRunsOf, HoldsOf, ReportsOn, ShowsSitesOf};
+ghost use Rattle.vsa_top.specs.Certified.{IsClosedCertOf};
+ghost use Rattle.vsa_top.specs.Scripts.{second_limit};
+ghost use Rattle.vsa_top.specs.Headline.{CertifiesOn, CoversRunsOf, HoldsOf, LeavesOpen, ReportsOn, ShowsSitesOf};
 
-use crate::asserting::assertions_hold;
-use cert_verdict::closed_verdicts_tell_closed_books;
-use chip_law::LawfulChip;
+use crate::laws::families_have_laws;
 use ihex_read::{ended_texts_stay, image_or_fault, images_keep_rules};
 use made_programs::made_texts_denote;
-use mcs51_flow::Mcs51Chip;
-use msp430_flow::Msp430Chip;
-use report_text::{closed_reports_cover_runs, closed_works_cover_runs, open_reports_show_sites};
-use state_text::LawfulText;
-
-/// The report that is told of a certificate's closed table covers every run of the chip, whoever made the certificate.
-fn closed_verdicts_cover_runs<C: LawfulChip + LawfulText>()
-    ensures { (base : C.Base) (text_of : ℕ → List ℕ → List ℕ) (text told : List ℕ) → C.program base
-        → IsVerdict text_of (C.analysis base) (C.texts base) text true told → CoversEveryRun (C.machine base) text_of told }
-{
-    closed_verdicts_tell_closed_books::<C>();
-    closed_works_cover_runs::<C>();
-}
 
 /// A report that is told as closed covers every run, and one that is told as open shows its open sites. Analyses alone are
 /// told as open, with or without assertions. Assertions that are told to hold do so on every run, and the report of a
@@ -43,21 +28,31 @@ fn closed_verdicts_cover_runs<C: LawfulChip + LawfulText>()
 pub(crate) fn reports_hold()
     ensures closed { (task : ATask) (input before after : Option (List ℕ)) (journal : List AnEvent)
         → IsRamRange (rules_of (Analyse task)) → EndsInMemory (rules_of (Analyse task)) → IsBounded (Analyse task) → Answers (Analyse task) Done input before after journal →
-        ReportsOn task input before after (CoversRunsOf task.target) }
+        ReportsOn task input before after journal (CoversRunsOf task.target) }
     ensures open { (task : ATask) (input before after : Option (List ℕ)) (journal : List AnEvent)
         → IsRamRange (rules_of (Analyse task)) → EndsInMemory (rules_of (Analyse task)) → IsBounded (Analyse task) → Answers (Analyse task) Open input before after journal →
-        ReportsOn task input before after (λ image report. ShowsSitesOf task.target task.limits image journal report) }
+        ReportsOn task input before after journal (λ image report. ShowsSitesOf task.target task.limits image journal report) }
     ensures open_alone { (reading : AReading) (input before after : Option (List ℕ)) (journal : List AnEvent)
         → Answers reading Open input before after journal → Analyses reading }
     ensures asserted { (task : ATask) (input before after : Option (List ℕ)) (journal : List AnEvent)
         → IsRamRange (rules_of (Assert task)) → EndsInMemory (rules_of (Assert task)) → IsBounded (Assert task)
         → Answers (Assert task) Done input before after journal → HoldsOf task.target input }
+    ensures left_open { (task : ATask) (input before after : Option (List ℕ)) (journal : List AnEvent)
+        → IsRamRange (rules_of (Assert task)) → EndsInMemory (rules_of (Assert task)) → IsBounded (Assert task)
+        → Answers (Assert task) Open input before after journal → LeavesOpen task input before after journal }
     ensures certified { (task : ATask) (input before after : Option (List ℕ)) (journal : List AnEvent)
         → IsRamRange (rules_of (Check task)) → EndsInMemory (rules_of (Check task)) → IsBounded (Check task)
-        → Answers (Check task) Done input before after journal → CertifiesOn task.target input before after }
+        → Answers (Check task) Done input before after journal → CertifiesOn task input before after }
     ensures verdict { (task : ATask) (answered : AStatus) (input before after : Option (List ℕ)) (journal : List AnEvent) (text certificate : List ℕ) (image : List (Option ℕ))
         → Answers (Check task) answered input before after journal → input ≡ Some text → Gives (rules_of (Check task)) Second text image certificate
         → ¬ (answered ≡ ReadFault) → ¬ (answered ≡ WriteFault) → IsVerdictOn task image certificate answered before after ⊎ (answered ≡ Memory) }
+    ensures exact { (task : ATask) (answered : AStatus) (input before after : Option (List ℕ)) (journal : List AnEvent)
+        (text certificate : List ℕ) (image : List (Option ℕ))
+        → IsRamRange (rules_of (Check task)) → EndsInMemory (rules_of (Check task)) → IsBounded (Check task)
+        → Answers (Check task) answered input before after journal → input ≡ Some text
+        → Gives (rules_of (Check task)) Second text image certificate → length certificate ≤ second_limit
+        → ¬ (answered ≡ ReadFault) → ¬ (answered ≡ WriteFault)
+        → ((answered ≡ Done) ↔ IsClosedCertOf task.target task.limits image certificate) ⊎ (answered ≡ Memory) }
     ensures complete { (reading : AReading) (answered : AStatus) (input before after : Option (List ℕ)) (journal : List AnEvent) (text : List ℕ) (image : List (Option ℕ)) (second : List ℕ)
         → Answers reading answered input before after journal → input_of reading input ≡ Some text → Gives (rules_of reading) (tail_of reading) text image second
         → ¬ (answered ≡ ReadFault) → ¬ (answered ≡ WriteFault) → Ends reading answered ⊎ (answered ≡ Memory) }
@@ -69,12 +64,5 @@ pub(crate) fn reports_hold()
     image_or_fault();
     images_keep_rules();
     made_texts_denote();
-    closed_reports_cover_runs::<Msp430Chip>();
-    closed_reports_cover_runs::<Mcs51Chip>();
-    open_reports_show_sites::<Msp430Chip>();
-    open_reports_show_sites::<Mcs51Chip>();
-    assertions_hold::<Msp430Chip>();
-    assertions_hold::<Mcs51Chip>();
-    closed_verdicts_cover_runs::<Msp430Chip>();
-    closed_verdicts_cover_runs::<Mcs51Chip>();
+    families_have_laws();
 }

@@ -4,7 +4,7 @@ ghost use Rattle.std.specs.Prelude.{◌≡◌, ◌≢◌, ◌+◌, ◌++◌, ◌
 ghost use Rattle.image.specs.Kept.{IsRamRange, IsReadUnder};
 ghost use Rattle.image.specs.declared.tail.Tail.TheVariants.{Second};
 ghost use Rattle.ihex_read.specs.Reading.{HasEnded};
-ghost use Rattle.streams.specs.Stream.{HasRisen};
+ghost use Rattle.vsa_top.specs.Faults.{TellsFaults};
 ghost use Rattle.vsa_top.specs.Input.{InputGives, LacksImage, begun_with};
 
 use ihex_read::{
@@ -122,9 +122,7 @@ pub fn image_in<S: Source>(
     ensures image { IfOk result (λ given. InputGives rules tail (S.left source.old) (begun_with given.1.items (S.left source.new)) given.0) }
     ensures kept { IfOk result (λ given. IsReadUnder rules given.0) }
     ensures refused { IfErr result (λ error. IfSome (S.left source.old) (λ text. LacksImage rules tail text error)) }
-    ensures cause { IfErr result (λ error. error ≡ InputError.Failed → HasRisen (S.faults source.old) (S.faults source.new)) }
-    ensures quiet { OnOk result (S.faults source.new ≡ S.faults source.old) }
-    ensures quiet_refusal { IfErr result (λ error. error ≢ InputError.Failed → S.faults source.new ≡ S.faults source.old) }
+    ensures faults { TellsFaults InputError.Failed (S.faults source.old) (S.faults source.new) result }
 {
     ended_texts_stay();
     let mut reader = Reader::new(alloc, rules, tail)?;

@@ -3,10 +3,12 @@
 #![tactic(auto)]
 
 mod alone;
+mod asked;
 mod asserting;
 mod checking;
 mod headline;
 mod input;
+mod laws;
 mod made;
 mod mcs51;
 mod msp430;

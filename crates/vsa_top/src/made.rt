@@ -4,8 +4,8 @@ ghost use Rattle.std.specs.Prelude.{◌≡◌, ◌≢◌, ◌≤◌, ℕ, IfOk, 
 ghost use Rattle.image.specs.Kept.{IsRamRange};
 ghost use Rattle.image.specs.declared.chip_name.ChipName.{ChipName as AChip};
 ghost use Rattle.image_gen.specs.Made.{made_image};
-ghost use Rattle.streams.specs.Stream.{HasRisen};
 ghost use Rattle.vsa_top.specs.Answer.{IsReply, TellsNoFault};
+ghost use Rattle.vsa_top.specs.Faults.{TellsFaults};
 ghost use Rattle.vsa_top.specs.Input.{input_of};
 ghost use Rattle.vsa_words.specs.Words.{IsBounded, rules_of};
 ghost use Rattle.vsa_words.specs.declared.reading.Reading.TheVariants.{Gen};
@@ -31,7 +31,6 @@ fn made_reply<R: Threads + Wait + Sync, G: Gate + Sync>(
 ) -> Result<Reply, NoReply>
     requires least { 1 ≤ number }
     requires most { number ≤ MOST }
-    ensures no_fault { IfOk result (λ reply. TellsNoFault reply.status) }
     ensures reply { IfOk result (λ reply. IsReply (Gen chip number) (Some (made_image chip number)) reply.status reply.text reply.journal.items) }
     ensures unread { IfErr result (λ error. error ≢ NoReply.ReadFault) }
 {
@@ -52,9 +51,7 @@ pub fn reply_to<R: Threads + Wait + Sync, S: Source, G: Gate + Sync>(
     requires bounded { IsBounded reading }
     ensures no_fault { IfOk result (λ reply. TellsNoFault reply.status) }
     ensures reply { IfOk result (λ reply. IsReply reading (input_of reading (S.left source.old)) reply.status reply.text reply.journal.items) }
-    ensures cause { IfErr result (λ error. error ≡ NoReply.ReadFault → HasRisen (S.faults source.old) (S.faults source.new)) }
-    ensures quiet { OnOk result (S.faults source.new ≡ S.faults source.old) }
-    ensures quiet_refusal { IfErr result (λ error. error ≢ NoReply.ReadFault → S.faults source.new ≡ S.faults source.old) }
+    ensures faults { TellsFaults NoReply.ReadFault (S.faults source.old) (S.faults source.new) result }
     ensures unread { (chip : AChip) (number : ℕ) → reading ≡ Gen chip number → source.new ≡ source.old }
 {
     match reading {

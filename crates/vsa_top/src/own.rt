@@ -15,12 +15,8 @@ ghost use Rattle.vsa_words.specs.declared.reading.Reading.TheVariants.{Analyse, 
 ghost use Rattle.vsa_words.specs.declared.reading.Task.{Task as ATask};
 
 use crate::headline::reports_hold;
-use cert_verdict::{own_certificates_are_closed, verdicts_are_one};
+use crate::laws::families_have_laws;
 use ihex_read::{image_or_fault, images_keep_rules};
-use mcs51_flow::{Mcs51Chip, stacks_grow_by_bytes};
-use msp430_flow::{Msp430Chip, stacks_grow_by_words};
-use report_bytes::closed_books_are_told;
-use report_text::closed_reports_cover_runs;
 
 /// What an analysis writes with a certificate and Done is a report that covers every run, and its own certificate behind it. Where a report's own
 /// certificate is checked, and isn't longer than a second text may be, the answer is this report with Done, unless something
@@ -42,14 +38,5 @@ pub(crate) fn own_certificates_pass()
     reports_hold();
     image_or_fault();
     images_keep_rules();
-    closed_reports_cover_runs::<Msp430Chip>();
-    closed_reports_cover_runs::<Mcs51Chip>();
-    stacks_grow_by_words();
-    stacks_grow_by_bytes();
-    closed_books_are_told::<Msp430Chip>();
-    closed_books_are_told::<Mcs51Chip>();
-    own_certificates_are_closed::<Msp430Chip>();
-    own_certificates_are_closed::<Mcs51Chip>();
-    verdicts_are_one::<Msp430Chip>();
-    verdicts_are_one::<Mcs51Chip>();
+    families_have_laws();
 }

@@ -2,21 +2,18 @@
 
 ghost use Rattle.std.specs.Prelude.{◌≡◌, ◌≢◌, ◌≤◌, ℕ, [], IfOk, IfErr, OnOk};
 ghost use Rattle.image.specs.Kept.{IsRamRange, IsReadUnder};
-ghost use Rattle.streams.specs.Stream.{HasRisen};
 ghost use Rattle.run_trace.specs.Trace.{run_of};
-ghost use Rattle.vsa_top.specs.Answer.{IsAnalysis, IsFollowed, IsImageReply, IsListing, IsReply, IsReported, IsReportedOn, IsRun, TellsNoFault, bad_line as the_bad_line, no_line as the_no_line, run_under, status_of_analysis, status_of_end};
+ghost use Rattle.vsa_top.specs.Answer.{IsAnalysis, IsFollowed, IsImageReply, IsListing, IsReply, IsReported, IsRun, bad_line as the_bad_line, no_line as the_no_line, run_under, status_of_analysis, status_of_end};
+ghost use Rattle.vsa_top.specs.Faults.{TellsFaults};
 ghost use Rattle.vsa_top.specs.Input.{begun_with};
 ghost use Rattle.vsa_words.specs.Words.{IsBounded, rules_of, target_rules};
-ghost use Rattle.vsa_words.specs.declared.reading.Reading.TheVariants.{Analyse};
 
-use crate::asserting::assertion_reply;
-use crate::checking::check_reply;
+use crate::asked::asked_of;
 use crate::input::{InputError, image_in};
 use crate::mcs51::{Mcs51Code, Mcs51Run};
 use crate::msp430::{Msp430Code, Msp430Run};
 use crate::outcome::Status;
 use crate::script::{ScriptRefusal, script_in};
-use crate::summary::made_image_reply;
 use cert_text::book_certificate;
 use chip_analysis::Chip;
 use closed_book::books_are_bounded;
@@ -25,9 +22,9 @@ use disassembly::disassembly_of;
 use ihex_read::HexFault;
 use image::Image;
 use item_lines::InstrText;
-use mcs51_flow::{Mcs51Chip, Mcs51Text};
+use mcs51_flow::Mcs51Text;
 use msp430_chip::Device;
-use msp430_flow::{Msp430Chip, Msp430Text};
+use msp430_flow::Msp430Text;
 use no_memory::Memory;
 use report_bytes::report_of;
 use round_core::{Book, Event};
@@ -102,8 +99,7 @@ pub fn text_reply(alloc: Global, status: Status, text: Vec<u8>) -> Reply
 
 /// The status of a report.
 pub fn status_of(is_closed: bool) -> Status
-    ensures value { result ≡ status_of_analysis is_closed }
-    ensures no_fault { TellsNoFault result }
+    ensures { result ≡ status_of_analysis is_closed }
 {
     if is_closed {
         Status::Done
@@ -114,8 +110,7 @@ pub fn status_of(is_closed: bool) -> Status
 
 /// The status of a run.
 fn status_of_run(end: End) -> Status
-    ensures value { result ≡ status_of_end end }
-    ensures no_fault { TellsNoFault result }
+    ensures { result ≡ status_of_end end }
 {
     match end {
         End::Ran => Status::Done,
@@ -178,8 +173,7 @@ fn reported<C: LawfulText + InstrText>(
     cert: bool,
 ) -> Result<(Status, Vec<u8>), Memory>
     requires base { book.now.base ≡ C.base chip.now }
-    ensures no_fault { IfOk result (λ told. TellsNoFault told.0) }
-    ensures told { (let b = C.base chip.now in IfOk result (λ told. (workers : ℕ) → IsAnalysis (C.analysis b) workers book.now.journal
+    ensures { (let b = C.base chip.now in IfOk result (λ told. (workers : ℕ) → IsAnalysis (C.analysis b) workers book.now.journal
         → IsReported (C.text_of chip.now) (C.analysis b) (C.texts b) workers cert told.0 told.1.items book.now.journal)) }
 {
     books_are_bounded::<C>();
@@ -198,8 +192,7 @@ fn analysed<C: LawfulText + InstrText>(
     cert: bool,
 ) -> Result<Reply, Memory>
     requires base { book.base ≡ C.base chip.now }
-    ensures no_fault { IfOk result (λ reply. TellsNoFault reply.status) }
-    ensures reply { (let b = C.base chip.now in IfOk result (λ reply. (workers : ℕ) → IsAnalysis (C.analysis b) workers book.journal
+    ensures { (let b = C.base chip.now in IfOk result (λ reply. (workers : ℕ) → IsAnalysis (C.analysis b) workers book.journal
         → IsReported (C.text_of chip.now) (C.analysis b) (C.texts b) workers cert reply.status reply.text reply.journal.items)) }
 {
     let told = reported(alloc, chip, &book, cert);
@@ -260,12 +253,9 @@ fn run_reply<S: Source, E: Emulator, T: InstrText>(
     begun: &[u8],
     source: &mut S,
 ) -> Result<Reply, NoReply>
-    ensures no_fault { IfOk result (λ reply. TellsNoFault reply.status) }
     ensures run { IfOk result (λ reply. IsRun (λ script. run_of (E.runner machine.old) (T.text_of texts.now) steps (E.state machine.old) script) (begun_with begun.now (S.left source.old)) reply.status reply.text) }
     ensures journal { IfOk result (λ reply. reply.journal.items ≡ []) }
-    ensures cause { IfErr result (λ error. error ≡ NoReply.ReadFault → HasRisen (S.faults source.old) (S.faults source.new)) }
-    ensures quiet { OnOk result (S.faults source.new ≡ S.faults source.old) }
-    ensures quiet_refusal { IfErr result (λ error. error ≢ NoReply.ReadFault → S.faults source.new ≡ S.faults source.old) }
+    ensures faults { TellsFaults NoReply.ReadFault (S.faults source.old) (S.faults source.new) result }
 {
     match script_in(alloc, source, begun) {
         Ok(script) => {
@@ -295,12 +285,9 @@ fn chip_run_reply<S: Source>(
     source: &mut S,
 ) -> Result<Reply, NoReply>
     requires { IsRamRange (target_rules target) }
-    ensures no_fault { IfOk result (λ reply. TellsNoFault reply.status) }
     ensures run { IfOk result (λ reply. IsRun (run_under target steps image) (begun_with begun.now (S.left source.old)) reply.status reply.text) }
     ensures journal { IfOk result (λ reply. reply.journal.items ≡ []) }
-    ensures cause { IfErr result (λ error. error ≡ NoReply.ReadFault → HasRisen (S.faults source.old) (S.faults source.new)) }
-    ensures quiet { OnOk result (S.faults source.new ≡ S.faults source.old) }
-    ensures quiet_refusal { IfErr result (λ error. error ≢ NoReply.ReadFault → S.faults source.new ≡ S.faults source.old) }
+    ensures faults { TellsFaults NoReply.ReadFault (S.faults source.old) (S.faults source.new) result }
 {
     match target {
         Target::Msp430 { ram } => {
@@ -316,46 +303,18 @@ fn chip_run_reply<S: Source>(
 }
 
 /// The report of a program that so many workers analyse, and its certificate where one is asked for.
-fn chip_reply<
+pub fn chip_reply<
     R: Threads + Wait + Sync,
     C: LawfulText<Base: Send> + InstrText + Send + Sync,
     G: Gate + Sync,
 >(rt: &R, alloc: Global, chip: &C, workers: u32, cert: bool, gate: &G) -> Result<Reply, Memory>
     requires some { 1 ≤ workers }
     requires few { workers ≤ 16 }
-    ensures no_fault { IfOk result (λ reply. TellsNoFault reply.status) }
-    ensures reply { (let b = C.base chip.now in IfOk result (λ reply.
+    ensures { (let b = C.base chip.now in IfOk result (λ reply.
         IsReported (C.text_of chip.now) (C.analysis b) (C.texts b) workers cert reply.status reply.text reply.journal.items)) }
 {
     let book = book_of(rt, alloc, chip, workers, gate)?;
     analysed(alloc, chip, book, cert)
-}
-
-/// The report of an image, and its certificate where one is asked for.
-fn analysis_reply<R: Threads + Wait + Sync, G: Gate + Sync>(
-    rt: &R,
-    alloc: Global,
-    task: Task,
-    image: Image,
-    gate: &G,
-) -> Result<Reply, Memory>
-    requires range { IsRamRange (rules_of (Analyse task)) }
-    requires bounded { IsBounded (Analyse task) }
-    requires kept { IsReadUnder (rules_of (Analyse task)) image }
-    ensures no_fault { IfOk result (λ reply. TellsNoFault reply.status) }
-    ensures reply { IfOk result (λ reply.
-        IsReportedOn task.target task.limits task.workers task.cert image reply.status reply.text reply.journal.items) }
-{
-    match task.target {
-        Target::Msp430 { ram } => {
-            let chip = Msp430Chip::new(alloc, image, ram, task.limits)?;
-            chip_reply(rt, alloc, &chip, task.workers, task.cert, gate)
-        }
-        Target::Mcs51 => {
-            let chip = Mcs51Chip::new(alloc, image, task.limits)?;
-            chip_reply(rt, alloc, &chip, task.workers, task.cert, gate)
-        }
-    }
 }
 
 /// What the words ask of an image, behind whose text so much was read.
@@ -371,16 +330,18 @@ fn image_reply<R: Threads + Wait + Sync, S: Source, G: Gate + Sync>(
     requires range { IsRamRange (rules_of reading) }
     requires bounded { IsBounded reading }
     requires kept { IsReadUnder (rules_of reading) image }
-    ensures no_fault { IfOk result (λ reply. TellsNoFault reply.status) }
     ensures reply { IfOk result (λ reply. IsImageReply reading image (begun_with begun.now (S.left source.old)) reply.status reply.text reply.journal.items) }
-    ensures cause { IfErr result (λ error. error ≡ NoReply.ReadFault → HasRisen (S.faults source.old) (S.faults source.new)) }
-    ensures quiet { OnOk result (S.faults source.new ≡ S.faults source.old) }
-    ensures quiet_refusal { IfErr result (λ error. error ≢ NoReply.ReadFault → S.faults source.new ≡ S.faults source.old) }
+    ensures faults { TellsFaults NoReply.ReadFault (S.faults source.old) (S.faults source.new) result }
 {
     match reading {
-        Reading::Analyse { task } => Ok(analysis_reply(rt, alloc, task, image, gate)?),
-        Reading::Assert { task } => { assertion_reply(rt, alloc, task, image, begun, source, gate) }
-        Reading::Check { task } => check_reply(alloc, task, image, begun, source),
+        Reading::Analyse { task } => asked_of(rt, alloc, reading, task, image, begun, source, gate),
+        Reading::Assert { task } => asked_of(rt, alloc, reading, task, image, begun, source, gate),
+        Reading::Check { task } => asked_of(rt, alloc, reading, task, image, begun, source, gate),
+        Reading::Gen { chip, number } => {
+            let made = Reading::Gen { chip, number };
+            let task = Task::usual(chip);
+            asked_of(rt, alloc, made, task, image, begun, source, gate)
+        }
         Reading::Disasm { target } => {
             let lines = listing_of(alloc, target, &image)?;
             Ok(text_reply(alloc, Status::Done, lines))
@@ -388,7 +349,6 @@ fn image_reply<R: Threads + Wait + Sync, S: Source, G: Gate + Sync>(
         Reading::Run { target, steps } => {
             chip_run_reply(alloc, target, steps, image, begun, source)
         }
-        Reading::Gen { chip, number } => { Ok(made_image_reply(alloc, chip, number, image, gate)?) }
     }
 }
 
@@ -402,11 +362,8 @@ pub fn input_reply<R: Threads + Wait + Sync, S: Source, G: Gate + Sync>(
 ) -> Result<Reply, NoReply>
     requires range { IsRamRange (rules_of reading) }
     requires bounded { IsBounded reading }
-    ensures no_fault { IfOk result (λ reply. TellsNoFault reply.status) }
     ensures reply { IfOk result (λ reply. IsReply reading (S.left source.old) reply.status reply.text reply.journal.items) }
-    ensures cause { IfErr result (λ error. error ≡ NoReply.ReadFault → HasRisen (S.faults source.old) (S.faults source.new)) }
-    ensures quiet { OnOk result (S.faults source.new ≡ S.faults source.old) }
-    ensures quiet_refusal { IfErr result (λ error. error ≢ NoReply.ReadFault → S.faults source.new ≡ S.faults source.old) }
+    ensures faults { TellsFaults NoReply.ReadFault (S.faults source.old) (S.faults source.new) result }
 {
     match image_in(alloc, source, reading.rules(), reading.tail()) {
         Ok((image, begun)) => image_reply(

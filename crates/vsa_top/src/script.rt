@@ -1,7 +1,7 @@
 //! Reading the script of a source, behind its image text.
 
 ghost use Rattle.std.specs.Prelude.{◌≡◌, ◌≢◌, ◌+◌, ◌++◌, ◌<◌, ◌≤◌, ℕ, List, length, IfOk, IfErr, OnOk, IfSome};
-ghost use Rattle.streams.specs.Stream.{HasRisen};
+ghost use Rattle.vsa_top.specs.Faults.{TellsFaults};
 ghost use Rattle.vsa_top.specs.Input.{begun_with};
 ghost use Rattle.vsa_top.specs.Scripts.{IsAt, IsScript, LacksScript};
 
@@ -74,9 +74,7 @@ pub fn script_in<S: Source>(
 ) -> Result<Vec<u16>, ScriptRefusal>
     ensures script { IfOk result (λ script. IfSome (begun_with begun.now (S.left source.old)) (λ text. IsScript text script.items)) }
     ensures refused { IfErr result (λ error. IfSome (begun_with begun.now (S.left source.old)) (λ text. LacksScript text error)) }
-    ensures cause { IfErr result (λ error. error ≡ ScriptRefusal.Failed → HasRisen (S.faults source.old) (S.faults source.new)) }
-    ensures quiet { OnOk result (S.faults source.new ≡ S.faults source.old) }
-    ensures quiet_refusal { IfErr result (λ error. error ≢ ScriptRefusal.Failed → S.faults source.new ≡ S.faults source.old) }
+    ensures faults { TellsFaults ScriptRefusal.Failed (S.faults source.old) (S.faults source.new) result }
 {
     let mut reader = Reader::new(alloc);
     let mut buffer = [0u8; 4096];

@@ -1,8 +1,8 @@
 //! Reading the text behind an image text, and its assertions.
 
 ghost use Rattle.std.specs.Prelude.{◌≡◌, ◌≢◌, ◌≤◌, ◌<◌, length, IfOk, IfErr, OnOk, IfSome};
-ghost use Rattle.streams.specs.Stream.{HasRisen};
 ghost use Rattle.vsa_top.specs.Asserted.{AreAsserted, LacksAssertions};
+ghost use Rattle.vsa_top.specs.Faults.{TellsFaults};
 ghost use Rattle.vsa_top.specs.Input.{begun_with};
 
 use crate::script::ScriptRefusal;
@@ -79,9 +79,7 @@ pub fn second_in<S: Source>(
     ensures fits { IfOk result (λ text. length text.items ≤ MOST_BYTES) }
     ensures long { IfErr result (λ error. error ≡ SecondError.TooLong
         → IfSome (begun_with begun.now (S.left source.old)) (λ whole. MOST_BYTES < length whole)) }
-    ensures cause { IfErr result (λ error. error ≡ SecondError.Failed → HasRisen (S.faults source.old) (S.faults source.new)) }
-    ensures quiet { OnOk result (S.faults source.new ≡ S.faults source.old) }
-    ensures quiet_refusal { IfErr result (λ error. error ≢ SecondError.Failed → S.faults source.new ≡ S.faults source.old) }
+    ensures faults { TellsFaults SecondError.Failed (S.faults source.old) (S.faults source.new) result }
 {
     let mut text = Vec::from_slice(alloc, begun)?;
     let mut buffer = [0u8; 4096];
@@ -106,9 +104,7 @@ pub fn assertions_in<S: Source>(
 ) -> Result<Vec<(u32, Assertion)>, ScriptRefusal>
     ensures list { IfOk result (λ list. IfSome (begun_with begun.now (S.left source.old)) (λ text. AreAsserted spaces.now text list.items)) }
     ensures refused { IfErr result (λ error. IfSome (begun_with begun.now (S.left source.old)) (λ text. LacksAssertions spaces.now text error)) }
-    ensures cause { IfErr result (λ error. error ≡ ScriptRefusal.Failed → HasRisen (S.faults source.old) (S.faults source.new)) }
-    ensures quiet { OnOk result (S.faults source.new ≡ S.faults source.old) }
-    ensures quiet_refusal { IfErr result (λ error. error ≢ ScriptRefusal.Failed → S.faults source.new ≡ S.faults source.old) }
+    ensures faults { TellsFaults ScriptRefusal.Failed (S.faults source.old) (S.faults source.new) result }
 {
     let text = second_in(alloc, source, begun)?;
     Ok(read_lines(alloc, text.as_slice(), spaces)?)

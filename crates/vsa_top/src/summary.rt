@@ -1,26 +1,21 @@
 //! What is told of a made program in place of its report.
 
 ghost use Rattle.std.specs.Prelude.{◌≡◌, ◌++◌, IfOk, OnOk};
-ghost use Rattle.image.specs.Kept.{IsRamRange, IsReadUnder};
-ghost use Rattle.vsa_top.specs.Answer.{IsAnalysis, IsSummary, IsSummed, IsSummedOn, TellsNoFault};
+ghost use Rattle.vsa_top.specs.Answer.{IsAnalysis, IsSummary};
 ghost use Rattle.vsa_top.specs.Summary.{count_line, count_lines, summary};
-ghost use Rattle.vsa_words.specs.Words.{IsBounded, rules_of};
-ghost use Rattle.vsa_words.specs.declared.reading.Reading.TheVariants.{Analyse, Gen};
 
 use crate::outcome::Status;
 use crate::reply::{Reply, book_alone, status_of};
 use chip_law::LawfulChip;
 use closed_book::books_are_bounded;
 use dense_text::Text;
-use image::{ChipName, Image};
+use image::ChipName;
 use item_lines::InstrText;
-use mcs51_flow::Mcs51Chip;
-use msp430_flow::Msp430Chip;
 use no_memory::Memory;
 use report_bytes::{Counts, Report, head_line, push_summary, report_of};
 use round_core::Book;
 use std::alloc::{AllocError, Global};
-use vsa_words::{Target, Task, word_of};
+use vsa_words::word_of;
 use worker_rounds::Gate;
 
 /// Adds the number of a report's lines that begin with a letter.
@@ -79,8 +74,7 @@ fn summed<C: LawfulChip + InstrText>(
 ) -> Result<(Status, Vec<u8>), Memory>
     requires base { book.now.base ≡ C.base program.now }
     requires made { IsAnalysis (C.analysis book.now.base) 1 book.now.journal }
-    ensures no_fault { IfOk result (λ told. TellsNoFault told.0) }
-    ensures told { IfOk result (λ told. IsSummary (C.text_of program.now) (C.analysis (C.base program.now))
+    ensures { IfOk result (λ told. IsSummary (C.text_of program.now) (C.analysis (C.base program.now))
         chip number told.0 told.1.items book.now.journal) }
 {
     books_are_bounded::<C>();
@@ -91,15 +85,14 @@ fn summed<C: LawfulChip + InstrText>(
 }
 
 /// The summary of a made program that one worker analyses.
-fn chip_summary<C: LawfulChip + InstrText, G: Gate>(
+pub fn chip_summary<C: LawfulChip + InstrText, G: Gate>(
     alloc: Global,
     program: &C,
     chip: ChipName,
     number: u32,
     gate: &G,
 ) -> Result<Reply, Memory>
-    ensures no_fault { IfOk result (λ reply. TellsNoFault reply.status) }
-    ensures reply { IfOk result (λ reply. IsSummary (C.text_of program.now) (C.analysis (C.base program.now))
+    ensures { IfOk result (λ reply. IsSummary (C.text_of program.now) (C.analysis (C.base program.now))
         chip number reply.status reply.text reply.journal.items) }
 {
     let book = book_alone(alloc, program, gate)?;
@@ -111,49 +104,4 @@ fn chip_summary<C: LawfulChip + InstrText, G: Gate>(
         text: Text::from_bytes(text),
         journal,
     })
-}
-
-/// The summary of a made program whose image this is.
-fn image_summary<G: Gate>(
-    alloc: Global,
-    chip: ChipName,
-    number: u32,
-    task: Task,
-    image: Image,
-    gate: &G,
-) -> Result<Reply, Memory>
-    requires range { IsRamRange (rules_of (Analyse task)) }
-    requires bounded { IsBounded (Analyse task) }
-    requires kept { IsReadUnder (rules_of (Analyse task)) image }
-    ensures no_fault { IfOk result (λ reply. TellsNoFault reply.status) }
-    ensures reply { IfOk result (λ reply. IsSummedOn task.target task.limits image
-        chip number reply.status reply.text reply.journal.items) }
-{
-    match task.target {
-        Target::Msp430 { ram } => {
-            let program = Msp430Chip::new(alloc, image, ram, task.limits)?;
-            chip_summary(alloc, &program, chip, number, gate)
-        }
-        Target::Mcs51 => {
-            let program = Mcs51Chip::new(alloc, image, task.limits)?;
-            chip_summary(alloc, &program, chip, number, gate)
-        }
-    }
-}
-
-/// The summary of the analysis of a made program.
-pub fn made_image_reply<G: Gate>(
-    alloc: Global,
-    chip: ChipName,
-    number: u32,
-    image: Image,
-    gate: &G,
-) -> Result<Reply, Memory>
-    requires range { IsRamRange (rules_of (Gen chip number)) }
-    requires kept { IsReadUnder (rules_of (Gen chip number)) image }
-    ensures no_fault { IfOk result (λ reply. TellsNoFault reply.status) }
-    ensures reply { IfOk result (λ reply.
-        IsSummed chip number image reply.status reply.text reply.journal.items) }
-{
-    image_summary(alloc, chip, number, Task::usual(chip), image, gate)
 }

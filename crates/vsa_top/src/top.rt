@@ -1,10 +1,11 @@
 //! The top call.
 
-ghost use Rattle.std.specs.Prelude.{◌≡◌, ◌≢◌, [], ◌≤◌, ℕ, List, Option, Some, true, length, ◌⊎◌};
+ghost use Rattle.std.specs.Prelude.{◌≡◌, ◌≢◌, [], ◌≤◌, ℕ, List, Option, Some, true, length, ◌⊎◌, ◌↔◌};
 ghost use Rattle.streams.specs.Stream.{HasRisen, AppendsPrefix, appended};
 ghost use Rattle.image.specs.declared.tail.Tail.TheVariants.{Second};
 ghost use Rattle.image.specs.Kept.{IsRamRange};
-ghost use Rattle.vsa_top.specs.Headline.{CertifiesOn, CoversRunsOf, HoldsOf, ReportsOn, ShowsSitesOf};
+ghost use Rattle.vsa_top.specs.Certified.{IsClosedCertOf};
+ghost use Rattle.vsa_top.specs.Headline.{CertifiesOn, CoversRunsOf, HoldsOf, LeavesOpen, ReportsOn, ShowsSitesOf};
 ghost use Rattle.image.specs.declared.chip_name.ChipName.{ChipName as AChip};
 ghost use Rattle.vsa_words.specs.declared.reading.Reading.TheVariants.{Analyse, Assert, Check, Gen};
 ghost use Rattle.vsa_words.specs.declared.reading.Reading.{Reading as AReading};
@@ -109,22 +110,28 @@ pub fn vsa<R: Threads + Wait + Sync, S: Source, K: Sink, G: Gate + Sync>(
 ) -> Outcome
     // THE HEADLINE. Where the words ask an analysis, the input denotes an image under their rules and the status is Done,
     // which tells a report that says CLOSED, whatever the chip meets on any run has its line in the report, and no run
-    // leaves the model. Behind the report stands nothing, or the certificate that was asked for.
+    // leaves the model. Behind the report stands nothing, or the certificate that was asked for: that of the book that the
+    // journal leads to.
     ensures headline { (task : ATask) → Reads words.now (Analyse task) → result.status ≡ Status.Done
-        → ReportsOn task (S.left source.old) (K.held sink.old) (K.held sink.new) (CoversRunsOf task.target) }
+        → ReportsOn task (S.left source.old) (K.held sink.old) (K.held sink.new) result.journal.items (CoversRunsOf task.target) }
     // Where the words ask an analysis and the status is Open, the report says OPEN and shows each open site, of which there
     // is one: the address of a location of the book at which, by its state, the limit that its cause names is broken.
     ensures open_sites { (task : ATask) → Reads words.now (Analyse task) → result.status ≡ Status.Open
-        → ReportsOn task (S.left source.old) (K.held sink.old) (K.held sink.new)
+        → ReportsOn task (S.left source.old) (K.held sink.old) (K.held sink.new) result.journal.items
         (λ image report. ShowsSitesOf task.target task.limits image result.journal.items report) }
+    // Where the words ask an analysis under assertions and the status is Open, the report that was written in place of what they
+    // break shows each open site too.
+    ensures left_open { (task : ATask) → Reads words.now (Assert task) → result.status ≡ Status.Open
+        → LeavesOpen task (S.left source.old) (K.held sink.old) (K.held sink.new) result.journal.items }
     // Where the words ask an analysis under assertions and the status is Done, which tells HOLDS, the assertions that stand
     // behind the input's image text hold: nothing that the chip meets on any run breaks one, and no run leaves the model.
     ensures assertions { (task : ATask) → Reads words.now (Assert task) → result.status ≡ Status.Done
         → HoldsOf task.target (S.left source.old) }
-    // Where the words ask the check of a certificate and the status is Done, the report that was written covers every run of
-    // the chip with the input's image, whoever made the certificate.
+    // Where the words ask the check of a certificate and the status is Done, the text behind the input's image text is the
+    // certificate of a closed table, and the report that was written covers every run of the chip with this image, whoever
+    // made the certificate.
     ensures certified { (task : ATask) → Reads words.now (Check task) → result.status ≡ Status.Done
-        → CertifiesOn task.target (S.left source.old) (K.held sink.old) (K.held sink.new) }
+        → CertifiesOn task (S.left source.old) (K.held sink.old) (K.held sink.new) }
     // Where the words ask an analysis with a certificate, the input denotes an image and the status is Done, what was written is
     // a report with its own certificate behind it: the report of a closed book, of which the same holds as in the headline, and
     // the certificate of that book's table.
@@ -156,8 +163,17 @@ pub fn vsa<R: Threads + Wait + Sync, S: Source, K: Sink, G: Gate + Sync>(
         → ¬ HasRisen (S.faults source.old) (S.faults source.new) → ¬ HasRisen (K.faults sink.old) (K.faults sink.new)
         → Ends reading result.status ⊎ (result.status ≡ Status.Memory) }
 
-    // Where an input gives an image and a certificate behind it, the answer is the verdict on this certificate, where no count
-    // of faults rose, or Memory: Done with the report exactly where its table is closed, else why it is refused.
+    // Where an input gives an image and a text behind it that isn't too long, Done is told exactly where this text is the
+    // certificate of a closed table of the chip with this image under these limits, where no count of faults rose, or Memory.
+    ensures exact { (task : ATask) (text certificate : List ℕ) (image : List (Option ℕ)) → Reads words.now (Check task)
+        → S.left source.old ≡ Some text → Gives (rules_of (Check task)) Second text image certificate
+        → length certificate ≤ second_limit
+        → ¬ HasRisen (S.faults source.old) (S.faults source.new) → ¬ HasRisen (K.faults sink.old) (K.faults sink.new)
+        → ((result.status ≡ Status.Done) ↔ IsClosedCertOf task.target task.limits image certificate)
+        ⊎ (result.status ≡ Status.Memory) }
+
+    // Where an input gives an image and a text behind it, the answer is the verdict on this text as a certificate, where no
+    // count of faults rose, or Memory: Done with the report of its closed table, or why it is refused, or that it is too long.
     ensures verdict { (task : ATask) (text certificate : List ℕ) (image : List (Option ℕ)) → Reads words.now (Check task)
         → S.left source.old ≡ Some text → Gives (rules_of (Check task)) Second text image certificate
         → ¬ HasRisen (S.faults source.old) (S.faults source.new) → ¬ HasRisen (K.faults sink.old) (K.faults sink.new)
@@ -183,7 +199,7 @@ pub fn vsa<R: Threads + Wait + Sync, S: Source, K: Sink, G: Gate + Sync>(
     // For a made program nothing is read: the source is as it was.
     ensures unread { (chip : AChip) (number : ℕ) → Reads words.now (Gen chip number) → source.new ≡ source.old }
 
-    // What one worker tells of an analysis, and what is told of a made program, is a function of the words and the input: the
+    // What one worker tells of an analysis, with or without assertions, and what is told of a made program, is a function of the words and the input: the
     // reply that is given is the only one of an analysis.
     ensures one_reply { (reading : AReading) (text : List ℕ) → Reads words.now reading → WorksAlone reading
         → TellsAnalysis result.status → input_of reading (S.left source.old) ≡ Some text

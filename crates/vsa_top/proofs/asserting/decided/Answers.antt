@@ -30,6 +30,7 @@ returns-in-Ok g c =
     (λ (r : Reply). r.journal.items ≡ c.in-Ok.journal.items)
     (λ (r : Reply). (workers : ℕ) → IsAnalysis m workers book.journal → IsDecided text_of m workers list r.status r.text r.journal.items)
     (λ r status_is text_is journal_is workers is. decided_by text_of m workers list book.journal r.journal.items works r.status r.text is
+    (c.books_are_bounded.ensures book.base book.journal c.requires.program is.legal)
     ((c.closed_books_are_told.ensures book.base book.journal is.legal is.finished).1 (c.in-Ok.ensures.exact.0 refl))
     (ap (λ (k : Closed _ _). k.works) c.in-Ok.ensures.closed) status_is text_is (journal_is ∙ c.in-Ok.ensures.journal))
     c.decision.ensures.status c.decision.ensures.text c.decision.ensures.journal)
@@ -47,6 +48,7 @@ returns-in_ok-report-in-Err g c =
     → IsDecided text_of (g.C.Chip.analysis b) workers list status.Open c.from_bytes.result journal) c.requires.base
     (λ workers is. subst (λ t. IsDecided text_of m workers list status.Open t journal) (sym c.from_bytes.ensures)
     (reported_by text_of m workers list book.journal journal report.text.items report.is_closed is
+    (c.books_are_bounded.ensures book.base book.journal c.requires.program is.legal)
     (λ closed. cc (c.in-Err.ensures.exact.1 closed))
     (c.closed_books_are_told.ensures book.base book.journal is.legal is.finished).0
     (subst (λ (k : Kept _). IsReportOf text_of (replay (g.C.Chip.analysis k.base) k.journal) report.text.items report.is_closed) same

@@ -20,4 +20,4 @@ returns-in_ok-verdict-in-Ok-clause-reply g c =
     (judged verdict.is_closed
     (if_whole second c.in-Ok.text.items (λ t. IsJudged text_of a texts t verdict.is_closed told) c.in-Ok.ensures.text
     (record { fits = c.in-Ok.ensures.fits; verdict = is }))
-    (c.text_reply.ensures.status ∙ c.status_of_verdict.ensures.value))
+    (c.text_reply.ensures.status ∙ c.status_of_verdict.ensures))

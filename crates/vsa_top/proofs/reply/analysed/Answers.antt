@@ -2,8 +2,8 @@ use Rattle.std.proofs.Common.{sym, subst}
 use Rattle.vsa_top.specs.Answer.{IsReported}
 use Rattle.vsa_top.proofs.reply.analysed.Goals as goal
 
-pub returns-clause-reply : goal.returns-clause-reply
-returns-clause-reply g c = λ workers made.
+pub returns : goal.returns
+returns g c = λ workers made.
     let text_of = g.C.InstrText.text_of c.args.chip.now in
     let base = g.C.Chip.base c.args.chip.now in
     let m = g.C.Chip.analysis base in
@@ -13,4 +13,4 @@ returns-clause-reply g c = λ workers made.
     let journal = c.into_parts-journal.result.2.items in
     subst (λ t. IsReported text_of m texts workers c.args.cert status t journal) (sym c.from_bytes.ensures)
     (subst (λ j. IsReported text_of m texts workers c.args.cert status text j) (sym c.into_parts-journal.ensures.journal)
-    (c.in_ok-status.ensures.told workers made))
+    (c.in_ok-status.ensures workers made))

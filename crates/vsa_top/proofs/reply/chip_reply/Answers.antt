@@ -4,8 +4,8 @@ use Rattle.vsa_top.specs.declared.reply.Reply.{Reply}
 use Rattle.vsa_top.proofs.ReplyLemmas.{if_ok}
 use Rattle.vsa_top.proofs.reply.chip_reply.Goals as goal
 
-pub returns-clause-reply : goal.returns-clause-reply
-returns-clause-reply g c =
+pub returns : goal.returns
+returns g c =
     let chip = c.args.chip.now in
     let base = g.C.Chip.base chip in
     let book = c.in_ok-book.book in
@@ -14,4 +14,4 @@ returns-clause-reply g c =
     let is : ℕ → Reply → Type 0
     = λ n r. IsReported (g.C.InstrText.text_of chip) (m base) (g.C.StateText.texts base) n c.args.cert r.status r.text r.journal.items in
     if_ok c.analysed.result (λ (r : Reply). (n : ℕ) → IsAnalysis (m base) n book.journal → is n r) (is workers)
-    (λ r all. all workers (subst (λ b. IsAnalysis (m b) workers book.journal) c.in_ok-book.ensures.base c.in_ok-book.ensures.analysis)) c.analysed.ensures.reply
+    (λ r all. all workers (subst (λ b. IsAnalysis (m b) workers book.journal) c.in_ok-book.ensures.base c.in_ok-book.ensures.analysis)) c.analysed.ensures

@@ -5,8 +5,8 @@ use Rattle.vsa_top.specs.Answer.{IsAnalysis}
 use Rattle.vsa_top.proofs.ReplyLemmas.{reported_by}
 use Rattle.vsa_top.proofs.reply.reported.Goals as goal
 
-pub returns-clause-told : goal.returns-clause-told
-returns-clause-told g c = λ workers made.
+pub returns : goal.returns
+returns g c = λ workers made.
     let text_of = g.C.InstrText.text_of c.args.chip.now in
     let base = g.C.Chip.base c.args.chip.now in
     let m = g.C.Chip.analysis base in
@@ -19,4 +19,4 @@ returns-clause-told g c = λ workers made.
     let told : IsReportOf text_of (replay m book.journal) report.text.items report.is_closed =
     subst (λ b. IsReportOf text_of (replay (g.C.Chip.analysis b) book.journal) report.text.items report.is_closed) c.requires.base c.in_ok-report.ensures.report in
     reported_by text_of m texts workers c.args.cert book.journal report.text.items text report.is_closed c.status_of.result is bounded told
-    c.status_of.ensures.value c.in_ok-push_certificate.ensures
+    c.status_of.ensures c.in_ok-push_certificate.ensures

@@ -13,7 +13,7 @@ returns-in_ok-trace-in-Ok-clause-run g c =
     let trace = c.in_ok-trace-in-Ok.trace in
     let is : (trace.end, trace.text) ≡ run_of (g.E.Emulator.runner c.args.machine.now) (g.T.InstrText.text_of c.args.texts.now) c.args.steps
     (g.E.Emulator.state c.args.machine.now) script = c.in_ok-trace-in-Ok.ensures in
-    ran script c.in-Ok.ensures.script (c.built_reply.ensures.status ∙ c.status_of_run.ensures.value ∙ ap (λ (e : Ended). status_of_end e.0) is)
+    ran script c.in-Ok.ensures.script (c.built_reply.ensures.status ∙ c.status_of_run.ensures ∙ ap (λ (e : Ended). status_of_end e.0) is)
     (c.built_reply.ensures.text ∙ ap (λ (e : Ended). e.1) is)
 
 pub returns-in_ok-text-in-Err-Syntax-clause-run : goal.returns-in_ok-text-in-Err-Syntax-clause-run

@@ -6,8 +6,8 @@ use Rattle.vsa_top.specs.Answer.{IsAnalysis}
 use Rattle.vsa_top.proofs.ReplyLemmas.{summary_by}
 use Rattle.vsa_top.proofs.summary.summed.Goals as goal
 
-pub returns-clause-told : goal.returns-clause-told
-returns-clause-told g c =
+pub returns : goal.returns
+returns g c =
     let text_of = g.C.InstrText.text_of c.args.program.now in
     let base = g.C.Chip.base c.args.program.now in
     let m = g.C.Chip.analysis in
@@ -24,4 +24,4 @@ returns-clause-told g c =
     let counts : report.counts ≡ counts_of (reported_lines text_of (last_works (m base) journal)) =
     subst (λ b. report.counts ≡ counts_of (reported_lines text_of (last_works (m b) journal))) own c.in_ok-report.ensures.counts in
     summary_by text_of (m base) c.args.chip c.args.number journal report.text.items text report.is_closed report.deepest report.counts
-    c.status_of.result is bounded reported c.status_of.ensures.value deepest counts c.in_ok-text.ensures
+    c.status_of.result is bounded reported c.status_of.ensures deepest counts c.in_ok-text.ensures

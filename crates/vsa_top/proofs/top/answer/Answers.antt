@@ -1,5 +1,5 @@
 use Rattle.std.proofs.Common.{sym, subst}
-use Rattle.vsa_top.specs.Answer.{Answers, IsWritten}
+use Rattle.vsa_top.specs.Answer.{Answers}
 use Rattle.vsa_top.specs.Answer.Answers.{replied}
 use Rattle.vsa_top.proofs.top.answer.Goals as goal
 

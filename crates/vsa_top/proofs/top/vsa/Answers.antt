@@ -23,6 +23,12 @@ returns-in-Ok-Some-clause-assertions g c = λ task reads told.
     let is = read_as c.in-Ok-Some.field-0-is read.alone read.range read.end read.bounded c.answer.ensures.answer (Assert task) reads in
     c.reports_hold.ensures.asserted task _ _ _ _ is.range is.end is.bounded (as_told told is.answer)
 
+pub returns-in-Ok-Some-clause-left_open : goal.returns-in-Ok-Some-clause-left_open
+returns-in-Ok-Some-clause-left_open g c = λ task reads told.
+    let read = c.in-Ok-Some.ensures in
+    let is = read_as c.in-Ok-Some.field-0-is read.alone read.range read.end read.bounded c.answer.ensures.answer (Assert task) reads in
+    c.reports_hold.ensures.left_open task _ _ _ _ is.range is.end is.bounded (as_told told is.answer)
+
 pub returns-in-Ok-Some-clause-certified : goal.returns-in-Ok-Some-clause-certified
 returns-in-Ok-Some-clause-certified g c = λ task reads told.
     let read = c.in-Ok-Some.ensures in
@@ -90,6 +96,13 @@ returns-in-Ok-Some-clause-verdict g c = λ task text certificate image reads e g
     c.reports_hold.ensures.verdict task _ _ _ _ _ text certificate image is.answer e gives
     (λ fault. quiet_source (c.answer.ensures.read_fault fault)) (λ fault. quiet_sink (c.answer.ensures.write_fault fault))
 
+pub returns-in-Ok-Some-clause-exact : goal.returns-in-Ok-Some-clause-exact
+returns-in-Ok-Some-clause-exact g c = λ task text certificate image reads e gives fits quiet_source quiet_sink.
+    let read = c.in-Ok-Some.ensures in
+    let is = read_as c.in-Ok-Some.field-0-is read.alone read.range read.end read.bounded c.answer.ensures.answer (Check task) reads in
+    c.reports_hold.ensures.exact task _ _ _ _ _ text certificate image is.range is.end is.bounded is.answer e gives fits
+    (λ fault. quiet_source (c.answer.ensures.read_fault fault)) (λ fault. quiet_sink (c.answer.ensures.write_fault fault))
+
 pub returns-in-Ok-Some-clause-accepted : goal.returns-in-Ok-Some-clause-accepted
 returns-in-Ok-Some-clause-accepted g c = λ task text report certificate image reads e gives own fits quiet_source quiet_sink.
     let read = c.in-Ok-Some.ensures in
@@ -108,6 +121,10 @@ returns-in-Ok-None-clause-complete g c = λ reading text image second reads.
 
 pub returns-in-Ok-None-clause-verdict : goal.returns-in-Ok-None-clause-verdict
 returns-in-Ok-None-clause-verdict g c = λ task text certificate image reads.
+    absurd (none_of _ ((r : Reading) → Reads c.args.words.now r → ⊥) c.in-Ok-None.field-0-is c.in-Ok-None.ensures.none (Check task) reads)
+
+pub returns-in-Ok-None-clause-exact : goal.returns-in-Ok-None-clause-exact
+returns-in-Ok-None-clause-exact g c = λ task text certificate image reads.
     absurd (none_of _ ((r : Reading) → Reads c.args.words.now r → ⊥) c.in-Ok-None.field-0-is c.in-Ok-None.ensures.none (Check task) reads)
 
 pub returns-in-Ok-None-clause-accepted : goal.returns-in-Ok-None-clause-accepted
