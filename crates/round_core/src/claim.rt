@@ -1,38 +1,36 @@
 //! Claims and give-backs.
 
-ghost use Rattle.std.specs.Prelude.{◌≡◌, Some, IfOk, OnErr};
+ghost use Rattle.std.specs.Option.{option_copied};
+ghost use Rattle.std.specs.Prelude.{◌≡◌, IfOk, IsSome, OnErr};
 ghost use Rattle.round_core.specs.Answers.{AnswersClaim};
 ghost use Rattle.book_rules.specs.Kept.{with_event, IsOutOf};
-ghost use Rattle.book_rules.specs.Machine.{replay};
-ghost use Rattle.round_core.specs.Nodes.{IsHeld};
+ghost use Rattle.book_rules.specs.Machine.{inputs_of, replay};
 ghost use Rattle.round_core.specs.Tickets.{IsTicketOf};
 ghost use Rattle.book_rules.specs.declared.event.Event.{Event};
 
 use crate::book::Book;
+use crate::inputs::inputs_of;
 use crate::met::{Met, met_by};
 use crate::nodes::Nodes;
 use crate::parts::Parts;
 use crate::place::Place;
 use crate::ticket::{Claimed, Ticket};
-use book_rules::Versions;
-use call_context::{Node, Unit};
+use call_context::Unit;
 use chip_analysis::Chip;
 use no_memory::Memory;
 use std::alloc::Global;
 
-/// A copy of the state of a node, whose place this is, and how often that rose.
+/// A copy of a state, where there is one.
 fn copy_of<C: Chip>(
     alloc: Global,
     chip: &C,
-    nodes: &Nodes<C::Abs>,
-    node: &Node,
-    place: usize,
-) -> Result<(C::Abs, u32), Memory>
-    ensures { IfOk result (λ copy. IsHeld nodes.now.rows node.now copy.0 copy.1) }
+    state: Option<&C::Abs>,
+) -> Result<Option<C::Abs>, Memory>
+    ensures { IfOk result (λ copy. copy ≡ option_copied state.entry) }
 {
-    match nodes.find_near(node, place) {
-        Some((_, state, rises)) => Ok((chip.copy(alloc, state)?, rises)),
-        None => Err(Memory),
+    match state {
+        Some(state) => Ok(Some(chip.copy(alloc, state)?)),
+        None => Ok(None),
     }
 }
 
@@ -69,23 +67,14 @@ fn ticket_of<C: Chip>(
     place: Place,
     met: Met<C::Abs>,
 ) -> Result<Ticket<C>, Memory>
+    requires inputs { IsSome (inputs_of nodes.now.rows unit.now) }
     requires met { met ≡ nodes.now.rows }
     ensures { IfOk result (IsTicketOf nodes.now.rows seat unit.now) }
 {
-    let (at_node, at_exit) = place.of_nodes();
-    match unit {
-        Unit::One(node) => {
-            let (state, at) = copy_of(alloc, chip, nodes, node, at_node)?;
-            let versions = Versions { at, exit: 0 };
-            Ok(Ticket::new(seat, *unit, place, state, None, versions, met))
-        }
-        Unit::Back(node, exit) => {
-            let (state, at) = copy_of(alloc, chip, nodes, node, at_node)?;
-            let (left, exit) = copy_of(alloc, chip, nodes, exit, at_exit)?;
-            let versions = Versions { at, exit };
-            Ok(Ticket::new(seat, *unit, place, state, Some(left), versions, met))
-        }
-    }
+    let (at, exit, versions) = inputs_of(nodes, unit, place);
+    let at = chip.copy(alloc, at)?;
+    let exit = copy_of(alloc, chip, exit)?;
+    Ok(Ticket::new(seat, *unit, place, at, exit, versions, met))
 }
 
 /// The same with what nodes hold, if it is asked for and some unit is out.
@@ -97,6 +86,7 @@ fn ticket_at<C: Chip>(
     place: Place,
     meets: bool,
 ) -> Result<Ticket<C>, Memory>
+    requires { IsSome (inputs_of parts.now.nodes.rows unit.now) }
     ensures { IfOk result (IsTicketOf parts.now.nodes.rows seat unit.now) }
 {
     let alloc = parts.nodes.allocator();

@@ -9,6 +9,7 @@ mod candidates;
 mod claim;
 mod expect;
 mod former;
+mod inputs;
 mod key;
 mod met;
 mod nodes;
