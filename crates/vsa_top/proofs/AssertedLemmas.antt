@@ -1,5 +1,5 @@
 -- What is answered to assertions, put together from the book, and from the text behind the image text.
-use Rattle.std.proofs.Common.{◌≡◌, ◌++◌, ◌<◌, ◌≤◌, ℕ, Bool, true, false, Option, None, Some, List, [], ◌∷◌, refl, sym, ap, subst, ◌∙◌, inl, inr, arith, length, length-append}
+use Rattle.std.proofs.Common.{◌≡◌, ◌++◌, ◌<◌, ◌≤◌, ℕ, Bool, true, false, Option, None, Some, List, refl, sym, ap, subst, ◌∙◌, inl, inr, arith, length, length-append}
 use Rattle.std.specs.Prelude.{IfSome, flat_map}
 use Rattle.std.specs.Map.{values_of}
 use Rattle.std.proofs.lemmas.Bool.{cases_Bool}
@@ -22,16 +22,13 @@ use Rattle.book_rules.specs.declared.event.Event.{Event}
 use Rattle.streams.specs.Stream.{IsAtEnd}
 use Rattle.vsa_top.specs.Answer.{IsAnalysis, IsDecided}
 use Rattle.vsa_top.specs.Answer.IsDecided.{decided, reported}
-use Rattle.vsa_top.specs.Family.{family_of}
-use Rattle.vsa_top.specs.Asserted.{LacksAssertions, broken_in, broken_text, refusal_of, status_of_broken, unread_of}
+use Rattle.vsa_top.specs.Asserted.{LacksAssertions, broken_text, refusal_of, status_of_broken, unread_of}
 use Rattle.vsa_top.specs.Input.{begun_with}
 use Rattle.vsa_top.specs.Scripts.{second_limit}
 use Rattle.vsa_top.specs.declared.outcome.Status.{Status}
 use Rattle.vsa_top.specs.declared.outcome.Status.TheVariants as status
-use Rattle.vsa_words.specs.declared.reading.Target.{Target}
 use Rattle.vsa_top.specs.declared.second.SecondError.{SecondError}
 use Rattle.vsa_top.specs.declared.second.SecondError.TheVariants as second_error
-use Rattle.analysis_limits.specs.declared.limits.Limits.{Limits}
 
 -- BOOKS
 

@@ -24,7 +24,7 @@ use Rattle.run_trace.specs.Trace.{Ended}
 use Rattle.report_bytes.specs.Report.{are_closed, last_works}
 use Rattle.vsa_top.specs.declared.outcome.Status.{Status}
 use Rattle.vsa_top.specs.declared.outcome.Status.TheVariants.{Done, Open, ReadFault, WriteFault, Memory}
-use Rattle.vsa_top.specs.Answer.{Analyses, Answers, Ends, IsAnalysedOn, IsFollowed, IsReportedOn, IsChecked, IsCheckedOn, IsAsserted, IsDecided, IsImageReply, IsReply, IsRun, IsJudged, TellsNoFault, run_under, status_of_analysis, status_of_end, status_of_verdict}
+use Rattle.vsa_top.specs.Answer.{Analyses, Answers, Ends, IsAnalysedOn, IsReportedOn, IsChecked, IsCheckedOn, IsAsserted, IsDecided, IsImageReply, IsReply, IsRun, IsJudged, TellsNoFault, run_under, status_of_analysis, status_of_end, status_of_verdict}
 use Rattle.vsa_top.specs.Answer.Analyses.{of_input, of_asserted, of_made}
 use Rattle.vsa_top.specs.Answer.Answers.{replied, unreplied}
 use Rattle.vsa_top.specs.Answer.Ends.{closed, left_open, disassembled, ran_on, went_wild, lacked_a_choice, refused_script, script_too_long, summed, summed_open}

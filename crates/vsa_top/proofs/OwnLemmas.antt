@@ -1,7 +1,7 @@
 -- The certificate that stands behind a report passes its check, which tells this report.
-use Rattle.std.proofs.Common.{◌≡◌, ◌++◌, ◌≤◌, ℕ, true, false, Option, Some, List, refl, sym, ap, subst, ◌∙◌, inl, inr, arith}
+use Rattle.std.proofs.Common.{◌≡◌, ◌++◌, ◌≤◌, ℕ, true, false, Option, Some, List, refl, sym, ap, subst, ◌∙◌, inl, inr}
 use Rattle.std.specs.Prelude.{◌⊎◌, length}
-use Rattle.std.proofs.lemmas.List.{append-nil, append_cancel_left}
+use Rattle.std.proofs.lemmas.List.{append_cancel_left}
 use Rattle.analysis_limits.specs.declared.limits.Limits.{Limits}
 use Rattle.cert_verdict.specs.Verdict.{IsVerdict}
 use Rattle.image.specs.declared.tail.Tail.TheVariants.{Blank, Second}
@@ -11,8 +11,7 @@ use Rattle.image.specs.Kept.{IsRamRange}
 use Rattle.report_bytes.specs.Report.{are_closed, last_works, report_of_journal}
 use Rattle.book_rules.specs.declared.event.Event.{Event}
 use Rattle.streams.specs.Stream.{appended}
-use Rattle.vsa_top.specs.Answer.{Answers, IsCheckedOn, IsReply, IsReportedOn, IsVerdictOn, status_of_verdict}
-use Rattle.vsa_top.specs.Answer.IsChecked.{judged, lengthy}
+use Rattle.vsa_top.specs.Answer.{Answers, IsReply, IsReportedOn, IsVerdictOn}
 use Rattle.vsa_top.specs.Answer.IsReply.{of_image, of_bad, of_long}
 use Rattle.vsa_top.specs.Headline.{CoversRunsOf}
 use Rattle.vsa_top.specs.Input.{Gives}

@@ -3,7 +3,6 @@ use Rattle.std.specs.Prelude.{IfOk}
 use Rattle.vsa_top.specs.Answer.{IsAskedOn, IsImageReply, IsRun, run_under}
 use Rattle.vsa_top.specs.Input.{begun_with}
 use Rattle.vsa_top.specs.declared.reply.Reply.{Reply}
-use Rattle.vsa_words.specs.declared.reading.Reading.{Reading}
 use Rattle.vsa_words.specs.declared.reading.Reading.TheVariants.{Gen}
 use Rattle.vsa_words.specs.declared.reading.Task.{Task}
 use Rattle.vsa_top.proofs.ReplyLemmas.{if_both}
