@@ -9,7 +9,8 @@
 //!   takes, and in all, and which calls fail. `sound` goes back to streams without a fault, by pieces of one byte and of 4,096.
 //! - `times COUNT`: how often the rows behind it are asked.
 //! - `listing AT:DIGITS,..` is a row: the answer is the list of an image of the MSP430 with these bytes alone, which perhaps no
-//!   reader takes. `at-once WORDS` is one too: the call by these words on the input has two workers work at once.
+//!   reader takes. `at-once COUNT WORDS` is one too: the call by these words on the input has its workers work at once, as many as
+//!   have a processor and at least two, behind so many claims that come one behind the other.
 //! - `reads COUNT STATUS WORDS`, `writes COUNT STATUS WORDS` and `fronts FIRST LAST STATUS WORDS` are tables as rows: a source
 //!   that fails at each of its calls gives ReadFault and nothing, a sink that fails at each of its calls WriteFault and the front
 //!   of the answer, and each front of the input of so many bytes this status and the answer. The streams go by the pieces that

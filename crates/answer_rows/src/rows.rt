@@ -170,15 +170,17 @@ impl Rows {
         }
     }
 
-    /// Whether the call by these words has two workers work at once.
+    /// Whether the call by these words has its workers work at once, behind so many claims.
     fn is_at_once<R: Threads + Wait + AllocGlobal + Sync>(
         &self,
         rt: &R,
         line: &str,
     ) -> Result<bool, AllocError> {
-        let words = words_of(rt.alloc(), line)?;
+        let (alone, rest) = line.split_once(' ').unwrap_or((line, ""));
+        let alone = alone.parse::<u64>().unwrap_or(0);
+        let words = words_of(rt.alloc(), rest)?;
         let (mut source, mut sink) = self.streams(rt.alloc(), 4096)?;
-        Ok(work_at_once(rt, words.as_slice(), &mut source, &mut sink))
+        Ok(work_at_once(rt, alone, words.as_slice(), &mut source, &mut sink))
     }
 
     /// Whether the call by these words answers as it should, each time, by small pieces and by large ones.

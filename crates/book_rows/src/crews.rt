@@ -60,7 +60,7 @@ fn is_told<R: Threads + Wait + Sync, C: Chip<Base: Send> + Send + Sync>(
     match fixpoint(rt, alloc, chip, 2, gate) {
         Ok(book) => {
             let (_, _, journal) = book.into_parts();
-            gate.saw_both(journal.as_slice())
+            gate.saw_all(journal.as_slice())
         }
         Err(Memory) => false,
     }
@@ -68,7 +68,7 @@ fn is_told<R: Threads + Wait + Sync, C: Chip<Base: Send> + Send + Sync>(
 
 #[test]
 fn two_workers_work_at_once(rt: HostRuntime) {
-    let gate = HoldingGate::new(1);
+    let gate = HoldingGate::new(1, 2);
     let told = is_told(&rt, rt.alloc(), &of_shape(Shape::Tree(40)), &gate);
     assert!(rt; told);
 }

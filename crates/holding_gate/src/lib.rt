@@ -1,4 +1,4 @@
-//! For rows of workers: a gate that two workers pass only where they work at once.
+//! For rows of workers: a gate that some workers pass only where they work at once.
 #![tactic(auto)]
 
 mod gate;
