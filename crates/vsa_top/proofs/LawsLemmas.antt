@@ -1,8 +1,8 @@
 -- What holds of each chip holds of both, and an image that is given is a program of its chip.
-use Rattle.std.specs.Prelude.{◌≡◌, ◌↔◌, ℕ, true, Option, Ok, List}
+use Rattle.std.specs.Prelude.{◌≡◌, ◌↔◌, ◌⊎◌, ℕ, true, Option, Ok, List}
 use Rattle.analysis_limits.specs.declared.limits.Limits.{Limits}
 use Rattle.call_context.specs.declared.node.Node.{Node}
-use Rattle.cert_text.specs.Certificate.{AreRows, cert_of, table_of}
+use Rattle.cert_text.specs.Certificate.{AreRows, cert1_of, cert_of, table_of}
 use Rattle.cert_verdict.specs.Verdict.{IsVerdict}
 use Rattle.cert_verdict.specs.Verdict.IsVerdict.{closed, refused, faulty}
 use Rattle.chip_analysis.specs.Analysis.{Analysis}
@@ -36,7 +36,8 @@ HaveOnes = (target : Target) (limits : Limits) (image : List (Option ℕ)) → A
 
 -- a text whose verdict is a closed table's is the certificate of one
 pub closes_by : {A : Type 0} (text_of : ℕ → List ℕ → List ℕ) (a : Analysis A) (texts : StateTexts A) (text told : List ℕ)
-    → ((rows : List (Node × A)) → (table_of a texts text ≡ Ok rows) ↔ (AreRows a texts rows × (text ≡ cert_of a texts rows)))
+    → ((rows : List (Node × A)) → (table_of a texts text ≡ Ok rows)
+        ↔ (AreRows a texts rows × ((text ≡ cert_of a texts rows) ⊎ (text ≡ cert1_of a texts rows))))
     → IsVerdict text_of a texts text true told → IsClosedCert a texts text
 closes_by text_of a texts text told tables (closed rows table none book is_closed told_is) =
     let are = (tables rows).0 table in record { rows = rows; formed = are.0; written = are.1; closed = book.closed }
