@@ -14,6 +14,8 @@
 //! - `made CHIP COUNT` and `size CHIP COUNT`: a made program of so many functions, and how many bytes it has.
 //! - `report TEXT`: the lines and the summary of a report, or the line that is refused. `stack TEXT`: the least and the greatest
 //!   number of the sets in its S lines.
+//! - `symbols TEXT`: the symbols of a list, each with its memory, its address, its bytes and its name, or the line that is refused.
+//!   `named MEMORY ADDRESS TEXT`: the names of an address by a list, and how far behind them it stands.
 //! - `parts COUNT TEXT|..`: whether sinks get these parts, so many times, as they came. `fault CALL COUNT TEXT|..`: what was
 //!   written where a write fails. `counted COUNT`: the same of numbers as parts. `whole TEXT`: the same of a text of bytes.
 //! - `reads PIECE CALLS TEXT`: what reads of a source in memory give, so many bytes each, and `writes PIECE ROOM CALLS TEXT|..`:
@@ -38,6 +40,7 @@ mod numbers;
 mod reports;
 mod rows;
 mod scripts;
+mod symbols;
 mod texts;
 mod ways;
 

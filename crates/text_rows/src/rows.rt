@@ -6,6 +6,7 @@ use crate::memory_streams::{push_reads, push_writes};
 use crate::numbers::{halves, word_of};
 use crate::reports::{push_report, push_stack};
 use crate::scripts::{push_feeds, push_script};
+use crate::symbols::push_symbols;
 use crate::texts::push_text;
 use crate::ways::push_ways;
 use image::Image;
@@ -64,6 +65,7 @@ fn push_answer(alloc: Global, out: &mut String, kind: &str, asked: &str) -> Resu
         "feeds" => Ok(push_feeds(alloc, out, asked)?),
         "report" => push_report(alloc, out, asked),
         "stack" => push_stack(alloc, out, asked),
+        "symbols" | "named" => push_symbols(alloc, out, kind, asked),
         "reads" => push_reads(alloc, out, asked),
         "writes" => push_writes(alloc, out, asked),
         "made" | "size" | "parts" | "fault" | "counted" | "whole" => {
