@@ -1,0 +1,4 @@
+pub mod BlockLemmas
+pub mod FieldLemmas
+pub mod FillLemmas
+pub mod PageLemmas

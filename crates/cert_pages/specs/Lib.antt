@@ -1,0 +1,5 @@
+pub mod Blocks
+pub mod Named
+pub mod Numbered
+pub mod Numbers
+pub mod Pages
