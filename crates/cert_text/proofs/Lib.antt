@@ -1,7 +1,9 @@
 pub mod BookLemmas
 pub mod CertLemmas
 pub mod OneLemmas
+pub mod NodeLemmas
 pub mod OrderLemmas
+pub mod PagedLemmas
 pub mod RowLemmas
 pub mod TextLemmas
 pub mod WriteLemmas

@@ -6,7 +6,7 @@ use Rattle.call_context.specs.declared.node.Node.{Node}
 use Rattle.chip_analysis.specs.Analysis.{Analysis}
 use Rattle.text_fields.specs.Spelling.{Spelling}
 use Rattle.state_text.specs.Texts.{StateTexts}
-use Rattle.cert_text.specs.Certificate.{Ascend, cert_of, is_below, node_text, table_row}
+use Rattle.cert_text.specs.Certificate.{Ascend, cert1_of, is_below, node_text, table_row}
 use Rattle.cert_text.specs.Writing.{IsCert}
 use Rattle.cert_text.proofs.OrderLemmas.{below_along, not_below_itself}
 use Rattle.plain_lemmas.specs.Members.{in_cons, in_first, in_none, in_rest}
@@ -63,4 +63,4 @@ one_text a texts nodes one other is so =
     let same = same_rows (table_row a texts) (node_text texts) [] [] is.rows so.rows is.are_rows so.are_rows
     (λ z h. Contains-permutation nodes so.rows z so.same (Contains-permutation is.rows nodes z (IsPermutation-sym nodes is.rows is.same) h))
     (λ z h. Contains-permutation nodes is.rows z is.same (Contains-permutation so.rows nodes z (IsPermutation-sym nodes so.rows so.same) h)) in
-    is.text_is ∙ ap (cert_of a texts) same ∙ sym so.text_is
+    is.text_is ∙ ap (cert1_of a texts) same ∙ sym so.text_is

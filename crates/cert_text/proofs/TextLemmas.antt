@@ -13,7 +13,8 @@ use Rattle.cert_text.specs.declared.fault.LineFault.{LineFault}
 use Rattle.cert_text.specs.declared.fault.LineFault.TheVariants.{Syntax}
 use Rattle.cert_text.specs.declared.fault.ReadError.{ReadError}
 use Rattle.cert_text.specs.declared.fault.ReadError.TheVariants.{Bad, Memory}
-use Rattle.cert_text.specs.Certificate.{Read, at_first, finish, is_empty, table_of, table_step}
+use Rattle.cert_text.specs.Certificate.{Read, at_first, finish, first_behind, first_row, is_empty, node_text, table_of, table_row, table_step}
+use Rattle.cert_text.proofs.PagedLemmas.{lines_counts}
 use Rattle.cert_text.specs.Reading.{HasRead, IsFaultyFront, TellsFront, TellsLine}
 use Rattle.cert_text.proofs.RowLemmas.{err-ok, lines_fit}
 
@@ -121,6 +122,21 @@ module _ {A : Type 0} (a : Analysis A) (texts : StateTexts A) where
       ap (λ (c : List (List ℕ) × List ℕ). finish c.1 (length c.0 + 1) (reading (table_step a texts) 0 at_first c.0))
       (lines_cut-joined lines line so_far.whole so_far.begun)
       ∙ ap (finish line (length lines + 1)) so_far.reads
+
+  -- each row and each page has its line
+  pub few : (lines : List (List ℕ)) (line : List ℕ) (read : Read (Node × A)) → HasRead a texts lines line read
+      → length read.rows + length read.pages ≤ 268435456
+  unfolding table_step
+  few lines line read so_far =
+      let counted_so = lines_counts (table_row a texts) (node_text texts) texts.digits at_first read 0 lines so_far.reads in
+      omega (arith, counted_so, lines_fit lines line, so_far.small)
+
+  -- the line behind the pages
+  pub first_is : (lines : List (List ℕ)) (line : List ℕ) (read : Read (Node × A)) → HasRead a texts lines line read
+      → first_row a texts (joined lines line) ≡ 2 + length read.pages
+  first_is lines line read so_far =
+      ap (λ (c : List (List ℕ) × List ℕ). first_behind (reading (table_step a texts) 0 at_first c.0))
+      (lines_cut-joined lines line so_far.whole so_far.begun) ∙ ap first_behind so_far.reads
 
   pub fresh_read : HasRead a texts [] [] at_first
   fresh_read = record { whole = tt; begun = refl; reads = refl; small = omega arith }

@@ -8,7 +8,7 @@ use Rattle.call_context.specs.declared.node.Node.{Node}
 use Rattle.chip_analysis.specs.Analysis.{Analysis}
 use Rattle.book_rules.specs.Same.{same_node}
 use Rattle.state_text.specs.Texts.{StateTexts}
-use Rattle.cert_text.specs.Certificate.{AreRows, cert_of, node_text}
+use Rattle.cert_text.specs.Certificate.{AreRows, cert1_of, node_text}
 
 -- no node has two states, and each node is in form with its own
 pub record AreNodes {A : Type 0} (a : Analysis A) (nodes : List (Node × A)) : Type 0 where
@@ -20,7 +20,7 @@ pub record IsCert {A : Type 0} (a : Analysis A) (texts : StateTexts A) (nodes : 
   pub rows : List (Node × A)
   pub same : IsPermutation nodes rows
   pub are_rows : AreRows a texts rows
-  pub text_is : text ≡ cert_of a texts rows
+  pub text_is : text ≡ cert1_of a texts rows
 
 -- a node and its state as they are written
 abbrev pub Written : Type 0

@@ -3,7 +3,7 @@
 ghost use Rattle.std.specs.Prelude.{◌≡◌, ◌++◌, ◌∷◌, ◌+◌, ◌<◌, ◌≤◌, ℕ, [], Some, None, Ok, Err, length, take, IfOk, IfErr, OnOk, OnErr};
 ghost use Rattle.cert_text.specs.declared.fault.LineFault.{LineFault as AFault};
 ghost use Rattle.cert_text.specs.declared.fault.ReadError.{ReadError as AnError};
-ghost use Rattle.cert_text.specs.Certificate.{table_of};
+ghost use Rattle.cert_text.specs.Certificate.{first_row, table_of};
 ghost use Rattle.cert_text.specs.Reading.{IsFaultyFront, TellsFront, TellsWhole};
 
 use crate::cert::Cert;
@@ -17,9 +17,6 @@ use std::snapshot::Snapshot;
 
 /// The longest certificate that a reader takes, in bytes.
 pub const MOST_BYTES: usize = 268_435_456;
-
-/// The line of the first row: that behind the head.
-const FIRST_ROW: u32 = 2;
 
 /// Reads a certificate in pieces of any cut. It keeps the line that has begun and what the whole lines gave. Contracts see
 /// the chip's program with options, the text that was fed so far, and the error that is answered from now on, if any.
@@ -96,7 +93,8 @@ impl<C: LawfulText> Reader<C> {
         ensures again { (error : AnError) → self.error ≡ Some error → result ≡ Err error }
         ensures table { IfOk result (λ cert.
             table_of (C.analysis self.base) (C.texts self.base) self.text ≡ Ok cert.rows) }
-        ensures first { IfOk result (λ cert. (cert.base ≡ self.base) × (cert.first ≡ 2)) }
+        ensures first { IfOk result (λ cert. (cert.base ≡ self.base)
+            × (cert.first ≡ first_row (C.analysis self.base) (C.texts self.base) self.text)) }
         ensures bad { self.error ≡ None
             → IfErr result (TellsWhole (C.analysis self.base) (C.texts self.base) self.text) }
     {
@@ -113,9 +111,10 @@ impl<C: LawfulText> Reader<C> {
         } = self;
         let number = lines.len() as u32 + 1;
         if progress.is_complete(&line) {
+            let first = progress.count_pages() as u32 + 2;
             return Ok(Cert {
                 chip,
-                first: FIRST_ROW,
+                first,
                 rows: progress.into_rows(),
             });
         }

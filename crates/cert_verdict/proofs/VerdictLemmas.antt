@@ -4,12 +4,12 @@ use Rattle.call_context.specs.declared.node.Node.{Node}
 use Rattle.chip_analysis.specs.Analysis.{Analysis}
 use Rattle.report_bytes.specs.Report.{closed_report}
 use Rattle.state_text.specs.Texts.{StateTexts}
-use Rattle.cert_text.specs.Certificate.{table_of}
+use Rattle.cert_text.specs.Certificate.{first_row, table_of}
 use Rattle.cert_text.specs.declared.fault.LineFault.{LineFault}
 use Rattle.cert_check.specs.Refusal.{refusal_of, works_in}
 use Rattle.cert_check.specs.declared.refusal.Refusal.{Refusal}
 use Rattle.cert_verdict.specs.Lines.{fault_line, refusal_line}
-use Rattle.cert_verdict.specs.Verdict.{IsVerdict, TellsClosedBook, first_row}
+use Rattle.cert_verdict.specs.Verdict.{IsVerdict, TellsClosedBook}
 use Rattle.cert_verdict.specs.Verdict.IsVerdict.{closed, refused, faulty}
 
 pub closed_told : {A : Type 0} (text_of : ℕ → List ℕ → List ℕ) (a : Analysis A) (texts : StateTexts A) (text told : List ℕ)
@@ -40,7 +40,7 @@ module _ {A : Type 0} (text_of : ℕ → List ℕ → List ℕ) (a : Analysis A)
   Verdicts one other told also = IsVerdict text_of a texts text one told → IsVerdict text_of a texts text other also → (one ≡ other) × (told ≡ also)
 
   abbrev refusal : List (Node × A) → Option Refusal
-  refusal rows = refusal_of a texts.outside rows first_row
+  refusal rows = refusal_of a texts.outside rows (first_row a texts text)
 
   -- the rows of a text are one list
   one_table : (rows more : List (Node × A)) → table_of a texts text ≡ Ok rows → table_of a texts text ≡ Ok more → rows ≡ more

@@ -1,7 +1,7 @@
 //! The verdict on a certificate.
 
 ghost use Rattle.std.specs.Prelude.{◌≡◌, ◌≤◌, ℕ, List, Ok, length, IfOk, IfErr};
-ghost use Rattle.cert_text.specs.Certificate.{table_of};
+ghost use Rattle.cert_text.specs.Certificate.{first_row, table_of};
 ghost use Rattle.cert_text.specs.Reading.{TellsWhole};
 ghost use Rattle.cert_verdict.specs.Verdict.{IsVerdict};
 
@@ -27,7 +27,8 @@ pub struct Verdict {
 fn read<C: LawfulText>(alloc: Global, chip: &C, text: &[u8]) -> Result<Cert<C>, ReadError>
     requires { length text.now ≤ MOST_BYTES }
     ensures base { IfOk result (λ cert. cert.base ≡ C.base chip.now) }
-    ensures first { IfOk result (λ cert. cert.first ≡ 2) }
+    ensures first { (let b = C.base chip.now in
+        IfOk result (λ cert. cert.first ≡ first_row (C.analysis b) (C.texts b) text.now)) }
     ensures table { (let b = C.base chip.now in
         IfOk result (λ cert. table_of (C.analysis b) (C.texts b) text.now ≡ Ok cert.rows)) }
     ensures faulty { (let b = C.base chip.now in
@@ -44,10 +45,9 @@ fn judged<C: LawfulText + InstrText>(
     chip: &C,
     cert: Cert<C>,
 ) -> Result<Verdict, Memory>
-    requires base { C.base chip.now ≡ cert.base }
-    requires first { cert.first ≡ 2 }
+    requires { C.base chip.now ≡ cert.base }
     ensures { (let a = C.analysis cert.base in let texts = C.texts cert.base in
-        IfOk result (λ verdict. (text : List ℕ) → table_of a texts text ≡ Ok cert.rows
+        IfOk result (λ verdict. (text : List ℕ) → table_of a texts text ≡ Ok cert.rows → cert.first ≡ first_row a texts text
         → IsVerdict (C.text_of chip.now) a texts text verdict.is_closed verdict.text.items)) }
 {
     match check(alloc, chip, cert) {

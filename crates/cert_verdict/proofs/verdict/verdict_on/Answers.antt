@@ -1,6 +1,6 @@
 use Rattle.std.proofs.Common.{◌≡◌, Ok, refl, sym, subst}
 use Rattle.std.proofs.lemmas.Result.{IfOk-weaker}
-use Rattle.cert_text.specs.Certificate.{table_of}
+use Rattle.cert_text.specs.Certificate.{first_row, table_of}
 use Rattle.cert_text.specs.Reading.{TellsWhole}
 use Rattle.cert_verdict.specs.Verdict.{IsVerdict}
 use Rattle.cert_verdict.specs.Verdict.IsVerdict.{faulty}
@@ -16,7 +16,8 @@ returns-in-Ok g c =
     let same = c.in-Ok.ensures.base in
     IfOk-weaker c.judged.result _ _ (λ (v : Verdict) all.
     subst (λ b. IsVerdict (g.C.InstrText.text_of c.args.chip.now) (a b) (texts b) text v.is_closed v.text.items) same
-    (all text (subst (λ b. table_of (a b) (texts b) text ≡ Ok cert.rows) (sym same) c.in-Ok.ensures.table))) c.judged.ensures
+    (all text (subst (λ b. table_of (a b) (texts b) text ≡ Ok cert.rows) (sym same) c.in-Ok.ensures.table)
+    (subst (λ b. cert.first ≡ first_row (a b) (texts b) text) (sym same) c.in-Ok.ensures.first))) c.judged.ensures
 
 pub returns-in_ok-fault_line-in-Err-Bad : goal.returns-in_ok-fault_line-in-Err-Bad
 returns-in_ok-fault_line-in-Err-Bad g c =

@@ -1,10 +1,8 @@
-use Rattle.std.proofs.Common.{◌+◌, ◌<◌, ◌^◌, length, map, sym, ap, ◌∙◌, subst, arith, Ok, Err}
+use Rattle.std.proofs.Common.{◌≡◌, refl, ◌+◌, ◌<◌, ◌^◌, length, map, sym, ap, ◌∙◌, subst, arith, Ok, Err}
 use Rattle.cert_text.specs.declared.fault.LineFault.TheVariants.{Syntax}
 use Rattle.text_fields.specs.Lines.{joined}
-use Rattle.cert_text.specs.Certificate.{table_row}
 use Rattle.cert_text.specs.Reading.{IsTable}
-use Rattle.cert_text.proofs.RowLemmas.{rows_fit}
-use Rattle.cert_text.proofs.TextLemmas.{as_it_stands, count_lines, finish_bad, finish_complete, has_number}
+use Rattle.cert_text.proofs.TextLemmas.{as_it_stands, count_lines, few, finish_bad, finish_complete, first_is, has_number}
 use Rattle.cert_text.proofs.reader.Reader.end.Goals as goal
 
 pub overflow_cast-number : goal.overflow_cast-number
@@ -28,6 +26,17 @@ returns-clause-bad g c = λ none.
     rw (← c.self.view_is) (as_it_stands _ _ _ _ _ c.self.invariant.1 ∙ finish_bad _ _ c.self.inside.progress (rw c.deref.ensures.value at incomplete)
     ∙ ap (λ n. Err (n + 1, Syntax)) (sym count))
 
+pub overflow_cast-first : goal.overflow_cast-first
+overflow_cast-first g c = omega (arith, few _ _ _ _ _ c.self.invariant.1, c.count_pages.ensures)
+
+pub overflow_add-first : goal.overflow_add-first
+overflow_add-first g c = omega (arith, few _ _ _ _ _ c.self.invariant.1, c.count_pages.ensures)
+
+pub returns-then-is_complete-clause-first : goal.returns-then-is_complete-clause-first
+returns-then-is_complete-clause-first g c =
+    let first : c.count_pages.result + 2 ≡ 2 + length c.self.inside.progress.pages = omega (arith, c.count_pages.ensures) in
+    rw (← c.self.view_is) (refl, first ∙ sym (first_is _ _ _ _ _ c.self.invariant.1))
+
 pub invariant_of-result : goal.invariant_of-result
 invariant_of-result g c =
     let b = g.C.Chip.base c.self.inside.chip.value in
@@ -37,11 +46,9 @@ invariant_of-result g c =
     let complete = sym c.is_complete.ensures ∙ c.if-is_complete.true in
     let table = as_it_stands a texts _ _ _ c.self.invariant.1 ∙ finish_complete _ _ c.self.inside.progress (rw c.deref.ensures.value at complete) in
     let is = (c.certificates_are_tables.ensures b c.self.invariant.0 text _).0 table in
-    let fit : 2 + length c.self.inside.progress.rows < 2 ^ 32 = omega (
-      arith,
-      rows_fit
-          (table_row a texts) c.self.inside.progress.rows,
-      ap length is.1,
-      c.self.invariant.1.small,
-    ) in
-    (c.self.invariant.0, subst (IsTable a texts 2) (sym c.into_rows.ensures) (record { are_rows = is.0; lines = fit }))
+    let fit : c.count_pages.result + 2 + length c.self.inside.progress.rows < 2 ^ 32 =
+    omega (arith, few _ _ _ _ _ c.self.invariant.1, c.count_pages.ensures) in
+    (
+      c.self.invariant.0,
+      subst (IsTable a texts (c.count_pages.result + 2)) (sym c.into_rows.ensures) (record { are_rows = is.0; lines = fit }),
+    )
