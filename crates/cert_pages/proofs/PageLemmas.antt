@@ -56,16 +56,16 @@ module _ {K : Type 0} (items : K → List ℕ) where
       let first : items n ≡ name_of from = heads are in
       let rest : map items names ≡ names_from (suc from) (map items keys) = tails are in
       elim (cases_Bool (bytes_eq name (items n))) [
-    | inl same ↦
-        let here : bytes_eq name (name_of from) ≡ true = ap (bytes_eq name) (sym first) ∙ same in
-        let none : from ≡ from + 0 = omega arith in
-        rw (here, first_of name n names same) (ap (λ m. Some (numbered m k)) none)
-    | inr other ↦
-        let differ : bytes_eq name (name_of from) ≡ false = ap (bytes_eq name) (sym first) ∙ other in
-        let place = position_or_len (test name) names in
-        rw (differ, later_of name n names other)
-        (at_place (suc from) names keys name rest ∙ shifted from place (slice_get keys place))
-  ]
+        | inl same ↦
+            let here : bytes_eq name (name_of from) ≡ true = ap (bytes_eq name) (sym first) ∙ same in
+            let none : from ≡ from + 0 = omega arith in
+            rw (here, first_of name n names same) (ap (λ m. Some (numbered m k)) none)
+        | inr other ↦
+            let differ : bytes_eq name (name_of from) ≡ false = ap (bytes_eq name) (sym first) ∙ other in
+            let place = position_or_len (test name) names in
+            rw (differ, later_of name n names other)
+            (at_place (suc from) names keys name rest ∙ shifted from place (slice_get keys place))
+      ]
 
   names_long : (from : ℕ) (pages : List Page) → length (names_from from pages) ≡ length pages
   names_long from [] = refl
@@ -80,11 +80,11 @@ module _ {K : Type 0} (items : K → List ℕ) where
   no_number names keys name are e =
       let place = position_or_len (test name) names in
       elim (cases_Bool (nat_lt place (length names))) [
-    | inl inside ↦ absurd (none-some place (e ∙ rw inside refl))
-    | inr outside ↦
-        at_place 0 names keys name are
-        ∙ ap (option_map (numbered (0 + place))) (slice_get_past keys place (omega (arith, as_long names keys are, ltb-false place (length names) outside)))
-  ]
+        | inl inside ↦ absurd (none-some place (e ∙ rw inside refl))
+        | inr outside ↦
+            at_place 0 names keys name are
+            ∙ ap (option_map (numbered (0 + place))) (slice_get_past keys place (omega (arith, as_long names keys are, ltb-false place (length names) outside)))
+      ]
 
   pub some_number : (names keys : List K) (name : List ℕ) (number : ℕ) → map items names ≡ names_from 0 (map items keys)
       → Some number ≡ position (test name) names
@@ -92,13 +92,13 @@ module _ {K : Type 0} (items : K → List ℕ) where
   some_number names keys name number are e =
       let place = position_or_len (test name) names in
       elim (cases_Bool (nat_lt place (length names))) [
-    | inl inside ↦
-        let is : number ≡ place = same_Some number place (e ∙ rw inside refl) in
-        let none : 0 + place ≡ place = omega arith in
-        at_place 0 names keys name are ∙ ap (λ n. option_map (numbered n) (slice_get keys place)) none
-        ∙ ap (λ n. option_map (numbered n) (slice_get keys n)) (sym is)
-    | inr outside ↦ absurd (none-some number (sym (e ∙ rw outside refl)))
-  ]
+        | inl inside ↦
+            let is : number ≡ place = same_Some number place (e ∙ rw inside refl) in
+            let none : 0 + place ≡ place = omega arith in
+            at_place 0 names keys name are ∙ ap (λ n. option_map (numbered n) (slice_get keys place)) none
+            ∙ ap (λ n. option_map (numbered n) (slice_get keys n)) (sym is)
+        | inr outside ↦ absurd (none-some number (sym (e ∙ rw outside refl)))
+      ]
 
 -- ONE MORE PAGE
 

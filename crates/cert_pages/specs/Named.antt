@@ -124,7 +124,7 @@ module _ (digits : ℕ) where
       let climb = (loose_some text parts is loose).0 in
       let here = are ∙ ap (λ ps. with_pages front ps ++ more) (pages_some text parts is) in
       let put : option_map (with_cells (parts.0, new, parts.2)) (Some (all_in_turn named (length (with_pages front named))))
-          ≡ Some (all_read text (used_behind front text)) =
+      ≡ Some (all_read text (used_behind front text)) =
       ap₂ (λ (t : List ℕ) n. Some (all_read t n)) (ap (λ (cells : List ℕ). whole (parts.0, cells, parts.2)) (field_back digits parts.1) ∙ fits.0)
       (ap (λ ps. length (with_pages front ps)) (sym (pages_some text parts is))) in
       ap (filled digits pages used) (named_some pages text parts is)

@@ -206,12 +206,12 @@ pub in_turn : (pages front rest : List Page) (page : Page) (number : ℕ) → pa
 in_turn pages front rest page number are has is low =
     let here : number_in 0 (front ++ rest) page ≡ number = ap (λ (ps : List Page). number_in 0 ps page) (sym are) ∙ is in
     elim (cases_Bool (has_page front page)) [
-  | inl old ↦ used_before pages front rest page number old (omega (arith, here, number_front 0 front rest page old)) are
-  | inr new ↦
-      let among : has_page rest page ≡ true =
-      sym (rw (has_both front rest page, new) refl) ∙ ap (λ (ps : List Page). has_page ps page) (sym are) ∙ has in
-      next_is pages front rest page number new among (sym (number_behind 0 front rest page new) ∙ here) low are
-]
+      | inl old ↦ used_before pages front rest page number old (omega (arith, here, number_front 0 front rest page old)) are
+      | inr new ↦
+          let among : has_page rest page ≡ true =
+          sym (rw (has_both front rest page, new) refl) ∙ ap (λ (ps : List Page). has_page ps page) (sym are) ∙ has in
+          next_is pages front rest page number new among (sym (number_behind 0 front rest page new) ∙ here) low are
+    ]
 
 -- pages that are used stay in front of the others
 pub record Grows (front more : List Page) : Type 0 where

@@ -7,7 +7,6 @@ ghost use Rattle.cert_pages.specs.Pages.{behind_front};
 
 use text_fields::{behind, cut};
 
-
 /// The parts of a text that has no field of cells in front of a place, where a field begins.
 fn cells_from(text: &[u8], place: usize) -> Option<(&[u8], &[u8], &[u8])>
     requires { place ≤ length text.now }

@@ -84,7 +84,13 @@ fn stays_in_turn(in_turn: bool, number: usize, used: usize) -> bool
 }
 
 /// The cells of the pages with these numbers, each behind a semicolon.
-fn cells_named(alloc: Global, pages: &Pages, names: &[u8], used: usize, digits: u8) -> Result<Option<Filled>, Memory>
+fn cells_named(
+    alloc: Global,
+    pages: &Pages,
+    names: &[u8],
+    used: usize,
+    digits: u8,
+) -> Result<Option<Filled>, Memory>
     requires { digits ≤ 4 }
     ensures { IfOk result (λ found. found ≡ option_map (onto_named [] true) (pages_named digits pages.now used 0 (names_in names.now))) }
 {
@@ -123,7 +129,12 @@ fn push_cells(out: &mut Vec<u8>, cells: &[u8]) -> Result<(), AllocError>
 }
 
 /// The text between two others, as it is.
-fn put_between(alloc: Global, front: &[u8], cells: &[u8], rest: &[u8]) -> Result<Vec<u8>, AllocError>
+fn put_between(
+    alloc: Global,
+    front: &[u8],
+    cells: &[u8],
+    rest: &[u8],
+) -> Result<Vec<u8>, AllocError>
     ensures { IfOk result (λ text. text.items ≡ whole (front.now, terms.dashed_cells cells.now, rest.now)) }
 {
     let mut text = Vec::new(alloc);
@@ -136,7 +147,13 @@ fn put_between(alloc: Global, front: &[u8], cells: &[u8], rest: &[u8]) -> Result
 
 /// A text with the cells in the place of the numbers of pages, of which so many have been used. None: there is no such page, or
 /// the blocks don't ascend.
-pub fn fill(alloc: Global, pages: &Pages, text: &[u8], used: usize, digits: u8) -> Result<Option<Filled>, Memory>
+pub fn fill(
+    alloc: Global,
+    pages: &Pages,
+    text: &[u8],
+    used: usize,
+    digits: u8,
+) -> Result<Option<Filled>, Memory>
     requires { digits ≤ 4 }
     ensures { IfOk result (λ found. found ≡ terms.filled digits pages.now used text.now) }
 {

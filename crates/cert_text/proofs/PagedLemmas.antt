@@ -25,7 +25,7 @@ behind_front (b ∷ front) rest = rw (eq-eqb b b refl) (behind_front front rest)
 -- the letter of a row stays
 named_begins : (digits : ℕ) (pages : List Page) (text : List ℕ) → IsRowText text → IsRowText (named_in digits pages text)
 named_begins digits pages text is =
-    let other : (is.first == 77) ≡ false = elim is.letter [ | inl n ↦ ap (λ b. b == 77) n | inr x ↦ ap (λ b. b == 77) x ] in
+    let other : (is.first == 77) ≡ false = elim is.letter [ inl n ↦ ap (λ b. b == 77) n | inr x ↦ ap (λ b. b == 77) x ] in
     let kept = first_stays digits pages is.first is.rest other in
     record { first = is.first; rest = kept.0; are = ap (named_in digits pages) is.are ∙ kept.1; letter = is.letter }
 

@@ -18,7 +18,7 @@ pub fn certificates_are_tables<C: LawfulText>()
     ensures { (b : C.Base) → C.program b → (let a = C.analysis b in let texts = C.texts b in
         (text : List ℕ) (rows : List (ANode × C.Abs))
         → (table_of a texts text ≡ Ok rows)
-            ↔ (AreRows a texts rows × ((text ≡ cert_of a texts rows) ⊎ (text ≡ cert1_of a texts rows)))) }
+        ↔ (AreRows a texts rows × ((text ≡ cert_of a texts rows) ⊎ (text ≡ cert1_of a texts rows)))) }
 {
     C::texts_are_exact();
 }

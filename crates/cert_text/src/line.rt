@@ -259,7 +259,15 @@ fn accept_filled<C: StateText>(
     let Some(found) = fill(alloc, &progress.pages, line, progress.used, digits)? else {
         return Err(fault_of(number, LineFault::Syntax));
     };
-    accept_row(alloc, chip, progress, &found.text, found.used, found.in_turn, number)
+    accept_row(
+        alloc,
+        chip,
+        progress,
+        &found.text,
+        found.used,
+        found.in_turn,
+        number,
+    )
 }
 
 /// What stands in front of the cells of a page.

@@ -168,7 +168,7 @@ pub fn text_fault<'a>(words: &[String], first: &'a [u8]) -> Option<Fault<'a>> {
 const REFUSALS: [(&str, &str); 6] = [
     (
         "Syntax",
-        "of the certificate, counted after the end record, is none that may stand there. The first line is CERT 1 and the last one END, each line ends with one line feed and no carriage return, and docs/CERTIFICATE.md has the fields.",
+        "of the certificate, counted after the end record, is none that may stand there. The first line is CERT 1 or CERT 2 and the last one END, each line ends with one line feed and no carriage return, and docs/CERTIFICATE.md has the fields.",
     ),
     (
         "Order",

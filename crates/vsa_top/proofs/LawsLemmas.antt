@@ -37,7 +37,7 @@ HaveOnes = (target : Target) (limits : Limits) (image : List (Option ℕ)) → A
 -- a text whose verdict is a closed table's is the certificate of one
 pub closes_by : {A : Type 0} (text_of : ℕ → List ℕ → List ℕ) (a : Analysis A) (texts : StateTexts A) (text told : List ℕ)
     → ((rows : List (Node × A)) → (table_of a texts text ≡ Ok rows)
-        ↔ (AreRows a texts rows × ((text ≡ cert_of a texts rows) ⊎ (text ≡ cert1_of a texts rows))))
+    ↔ (AreRows a texts rows × ((text ≡ cert_of a texts rows) ⊎ (text ≡ cert1_of a texts rows))))
     → IsVerdict text_of a texts text true told → IsClosedCert a texts text
 closes_by text_of a texts text told tables (closed rows table none book is_closed told_is) =
     let are = (tables rows).0 table in record { rows = rows; formed = are.0; written = are.1; closed = book.closed }

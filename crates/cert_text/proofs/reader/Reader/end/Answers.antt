@@ -47,8 +47,7 @@ invariant_of-result g c =
     let table = as_it_stands a texts _ _ _ c.self.invariant.1 ∙ finish_complete _ _ c.self.inside.progress (rw c.deref.ensures.value at complete) in
     let is = (c.certificates_are_tables.ensures b c.self.invariant.0 text _).0 table in
     let fit : c.count_pages.result + 2 + length c.self.inside.progress.rows < 2 ^ 32 =
-    omega (arith, few _ _ _ _ _ c.self.invariant.1, c.count_pages.ensures) in
-    (
+    omega (arith, few _ _ _ _ _ c.self.invariant.1, c.count_pages.ensures) in (
       c.self.invariant.0,
       subst (IsTable a texts (c.count_pages.result + 2)) (sym c.into_rows.ensures) (record { are_rows = is.0; lines = fit }),
     )
