@@ -55,7 +55,7 @@ _guessfir_view() {
     if [ "$COMP_CWORD" = 1 ]; then
         COMPREPLY=($(compgen -W "html dot diff --help --version" -- "$word"))
     elif [ "${COMP_WORDS[1]}" = dot ]; then
-        COMPREPLY=($(compgen -W "calls" -- "$word"))
+        COMPREPLY=($(compgen -W "calls --names" -- "$word"))
     else
         mapfile -t COMPREPLY < <(compgen -f -- "$word")
     fi

@@ -40,6 +40,47 @@ pub enum Ask<'a> {
     Diff,
 }
 
+/// How many bytes the lists of symbols have that stand behind all else.
+#[derive(Clone, Copy)]
+pub enum Lists {
+    None,
+    One(usize),
+    /// That of the old report, and that of the new one.
+    Two(usize, usize),
+}
+
+/// What the words ask.
+#[derive(Clone, Copy)]
+pub struct Asked<'a> {
+    pub what: Ask<'a>,
+    pub lists: Lists,
+}
+
+/// The number of a word such as `names=120`.
+fn length_of(word: &String) -> Option<usize> {
+    match word.as_str().split_once('=') {
+        Some(("names", digits)) => digits.parse::<usize>().ok(),
+        _ => None,
+    }
+}
+
+/// The words in front of those of lists of symbols.
+fn lists_behind(words: &[String]) -> (&[String], Lists) {
+    let Some((last, front)) = words.split_last() else {
+        return (words, Lists::None);
+    };
+    let Some(new) = length_of(last) else {
+        return (words, Lists::None);
+    };
+    let Some((last, rest)) = front.split_last() else {
+        return (front, Lists::One(new));
+    };
+    match length_of(last) {
+        Some(old) => (rest, Lists::Two(old, new)),
+        None => (front, Lists::One(new)),
+    }
+}
+
 /// The labels of words such as `image=lamp.hex`.
 fn labels_of(words: &[String]) -> Option<Labels<'_>> {
     let mut labels = Labels::NONE;
@@ -57,7 +98,14 @@ fn labels_of(words: &[String]) -> Option<Labels<'_>> {
 }
 
 /// What the words behind the program's name ask.
-pub fn ask_of(words: &[String]) -> Option<Ask<'_>> {
+pub fn ask_of(words: &[String]) -> Option<Asked<'_>> {
+    let (words, lists) = lists_behind(words);
+    let what = what_of(words)?;
+    Some(Asked { what, lists })
+}
+
+/// What is asked by the words in front of those of lists.
+fn what_of(words: &[String]) -> Option<Ask<'_>> {
     let (first, rest) = words.split_first()?;
     match (first.as_str(), rest) {
         ("html", labels) => Some(Ask::Html(labels_of(labels)?)),

@@ -1,22 +1,28 @@
 //! Graphs of calls, and of one function.
 
 use crate::graph::{boxes_of, close, open_graph};
+use crate::named::write_labels;
 use marked_text::{Markup, Piece};
 use no_memory::Memory;
 use report_lines::Report;
 use report_program::{Function, Functions, Kind, Program, Site, Total, Way};
 use std::alloc::Global;
 use std::collections::BTreeSet;
+use symbol_lists::Names;
 
 /// The graph of calls: a box for each function, and an arrow for each that another one calls or goes on in. Interrupts have
 /// arrows from the functions in which they come.
-pub fn calls_graph(alloc: Global, report: &Report<'_>) -> Result<Vec<u8>, Memory> {
+pub fn calls_graph(
+    alloc: Global,
+    report: &Report<'_>,
+    names: &Names<'_>,
+) -> Result<Vec<u8>, Memory> {
     let program = Program::of(alloc, report)?;
     let functions = Functions::of(alloc, &program, report, None)?;
     let mut graph = Markup::new(alloc);
     open_graph(&mut graph, report);
     for function in functions.by_entry.values() {
-        node(&mut graph, function);
+        node(&mut graph, names, function);
     }
     for function in functions.by_entry.values() {
         calls(alloc, &mut graph, function)?;
@@ -36,22 +42,23 @@ fn begin_of(kind: Kind) -> Piece<'static> {
 }
 
 /// The box of a function, with its stack.
-fn node(graph: &mut Markup, function: &Function) {
+fn node(graph: &mut Markup, names: &Names<'_>, function: &Function) {
     graph.put_all(&[
         Piece::Marks("  \""),
         Piece::Address(function.entry),
-        Piece::Marks("\" [shape=box, label=\""),
+        Piece::Marks("\" [shape=box, label=<"),
         Piece::Address(function.entry),
-        begin_of(function.kind),
     ]);
+    write_labels(graph, names, function.entry);
+    graph.put_all(&[begin_of(function.kind)]);
     match function.total {
         Total::Known(total) => graph.put_all(&[
-            Piece::Marks("\\nstack "),
+            Piece::Marks("<br/>stack "),
             Piece::Number(usize::from(total)),
-            Piece::Marks("\"];\n"),
+            Piece::Marks(">];\n"),
         ]),
-        Total::Unknown => graph.put("\\nstack not known\"];\n"),
-        Total::Recursive => graph.put("\\nrecursive\"];\n"),
+        Total::Unknown => graph.put("<br/>stack not known>];\n"),
+        Total::Recursive => graph.put("<br/>recursive>];\n"),
     }
 }
 
@@ -119,6 +126,7 @@ fn interrupts_at(
 pub fn function_graph(
     alloc: Global,
     report: &Report<'_>,
+    names: &Names<'_>,
     entry: u16,
 ) -> Result<Option<Vec<u8>>, Memory> {
     let mut program = Program::of(alloc, report)?;
@@ -129,7 +137,7 @@ pub fn function_graph(
     program.keep(function)?;
     let mut graph = Markup::new(alloc);
     open_graph(&mut graph, report);
-    boxes_of(&mut graph, &program);
+    boxes_of(&mut graph, names, &program);
     close(&mut graph);
     Ok(Some(graph.finish()?))
 }

@@ -1,5 +1,6 @@
 //! What two reports differ in.
 
+use crate::diff_names::named_text;
 use crate::viewing::Shown;
 use crate::words::verdict_word;
 use marked_text::{Markup, Piece};
@@ -8,23 +9,39 @@ use report_lines::Report;
 use report_program::Depths;
 use std::alloc::Global;
 use std::collections::BTreeSet;
+use symbol_lists::Names;
 
-/// The parts of the lines of a letter, each once, from their byte `from` on, which is behind the letter and its space.
+/// Some lines of a text, each once.
+#[derive(Drop)]
+struct Parts<'a> {
+    all: BTreeSet<&'a [u8]>,
+    /// As they are told: accesses sorted, others as they come.
+    in_order: Vec<&'a [u8]>,
+}
+
+/// The parts of the lines of a letter, from their byte `from` on, which is behind the letter and its space.
 fn parts_of<'a>(
     alloc: Global,
     text: &'a [u8],
     letter: u8,
     from: usize,
-) -> Result<BTreeSet<&'a [u8]>, Memory> {
-    let mut parts = BTreeSet::new(alloc);
+) -> Result<Parts<'a>, Memory> {
+    let mut parts = Parts {
+        all: BTreeSet::new(alloc),
+        in_order: Vec::new(alloc),
+    };
     for line in text.split(|byte| *byte == b'\n') {
         // (the first line, CLOSED or OPEN, has no space there)
         if line.starts_with(&[letter, b' '])
             && let Some(part) = line.get(from..)
             && !part.is_empty()
+            && parts.all.insert(part)?
         {
-            parts.insert(part)?;
+            parts.in_order.push(part)?;
         }
+    }
+    if letter == b'M' || letter == b'A' {
+        parts.in_order.sort()?;
     }
     Ok(parts)
 }
@@ -58,15 +75,11 @@ impl<'a> Change<'a> {
     }
 }
 
-/// The parts that the other set hasn't.
-fn without<'a>(
-    alloc: Global,
-    own: &BTreeSet<&'a [u8]>,
-    other: &BTreeSet<&'a [u8]>,
-) -> Result<Vec<&'a [u8]>, Memory> {
+/// The parts that the other text hasn't.
+fn without<'a>(alloc: Global, own: &Parts<'a>, other: &Parts<'a>) -> Result<Vec<&'a [u8]>, Memory> {
     let mut parts = Vec::new(alloc);
-    for part in own.iter() {
-        if !other.contains(part) {
+    for part in own.in_order.iter() {
+        if !other.all.contains(part) {
             parts.push(*part)?;
         }
     }
@@ -171,6 +184,52 @@ const TOLD: [Told; 6] = [
     },
 ];
 
+/// All that is told of lines with names, in order.
+const TOLD_BY_NAME: [Told; 7] = [
+    Told {
+        letter: b'O',
+        from: 2,
+        name: "open sites",
+        by_line: true,
+    },
+    Told {
+        letter: b'F',
+        from: 2,
+        name: "functions",
+        by_line: true,
+    },
+    Told {
+        letter: b'A',
+        from: 2,
+        name: "memory, by address",
+        by_line: true,
+    },
+    Told {
+        letter: b'I',
+        from: 2,
+        name: "code",
+        by_line: true,
+    },
+    Told {
+        letter: b'M',
+        from: 2,
+        name: "accesses by instruction",
+        by_line: false,
+    },
+    Told {
+        letter: b'E',
+        from: 2,
+        name: "ways",
+        by_line: false,
+    },
+    Told {
+        letter: b'S',
+        from: 2,
+        name: "stack pointers",
+        by_line: false,
+    },
+];
+
 /// Tells how the lines of a letter differ, and whether they do.
 fn tell(
     alloc: Global,
@@ -187,24 +246,52 @@ fn tell(
     })
 }
 
-/// What two reports, whose texts these are, differ in.
-pub fn diff_of(
+/// What two reports differ in, whose lines these are, and how it is told.
+fn differences(
     alloc: Global,
     (old, old_text): (&Report<'_>, &[u8]),
     (new, new_text): (&Report<'_>, &[u8]),
+    all_told: &[Told],
+    nothing: &str,
 ) -> Result<Shown, Memory> {
     let mut text = Markup::new(alloc);
     summary(&mut text, "old: ", old);
     summary(&mut text, "new: ", new);
     let mut differs = old.closed != new.closed || old.summary != new.summary;
-    for told in TOLD.iter() {
+    for told in all_told {
         differs = tell(alloc, &mut text, told, old_text, new_text)? || differs;
     }
     if !differs {
-        text.put("\nno line differs\n");
+        text.put(nothing);
     }
     Ok(Shown {
         text: text.finish()?,
         differs,
     })
+}
+
+/// What two reports, whose texts these are, differ in.
+pub fn diff_of(
+    alloc: Global,
+    old: (&Report<'_>, &[u8]),
+    new: (&Report<'_>, &[u8]),
+) -> Result<Shown, Memory> {
+    differences(alloc, old, new, &TOLD, "\nno line differs\n")
+}
+
+/// What two reports differ in by the names of their addresses.
+pub fn named_diff_of(
+    alloc: Global,
+    (old, old_names): (&Report<'_>, &Names<'_>),
+    (new, new_names): (&Report<'_>, &Names<'_>),
+) -> Result<Shown, Memory> {
+    let old_text = named_text(alloc, old, old_names)?;
+    let new_text = named_text(alloc, new, new_names)?;
+    differences(
+        alloc,
+        (old, old_text.as_slice()),
+        (new, new_text.as_slice()),
+        &TOLD_BY_NAME,
+        "\nno line differs but by addresses\n",
+    )
 }

@@ -1,5 +1,6 @@
 //! The table of functions.
 
+use crate::named::write_link;
 use crate::words::noun;
 use image::Image;
 use marked_text::{Markup, Piece};
@@ -7,11 +8,13 @@ use no_memory::Memory;
 use report_lines::Report;
 use report_program::{Depths, Function, Functions, Kind, Program, Step, Total, Way};
 use std::alloc::Global;
+use symbol_lists::Names;
 
 /// The functions with their stack, and the way to the deepest place.
 pub fn functions_table(
     alloc: Global,
     page: &mut Markup,
+    names: &Names<'_>,
     report: &Report<'_>,
     program: &Program<'_>,
     functions: &Functions,
@@ -19,13 +22,13 @@ pub fn functions_table(
 ) -> Result<(), Memory> {
     let callers = functions.callers(alloc)?;
     page.put("<h2 id=functions>Functions</h2>\n");
-    worst_path(alloc, page, report, program, functions)?;
+    worst_path(alloc, page, names, report, program, functions)?;
     page.put(
         "<div class=scroll><table class=f><caption>Where calls, interrupts and the reset lead, with the bytes of stack that each takes: by itself, and with all that it calls. Interrupts that come in between aren't counted.</caption>\n<thead><tr><th scope=col>Function<th scope=col>Begun by<th scope=col>Instructions<th scope=col>Own stack<th scope=col>With calls<th scope=col>Calls<th scope=col>Called at</thead>\n<tbody>\n",
     );
     for function in functions.by_entry.values() {
-        begin_row(page, function, image);
-        end_row(page, function, callers.get(&function.entry));
+        begin_row(page, names, function, image);
+        end_row(page, names, function, callers.get(&function.entry));
     }
     page.put("</table></div>\n");
     Ok(())
@@ -49,16 +52,14 @@ fn total_stack(function: &Function) -> Piece<'static> {
 }
 
 /// A function, and what it is begun by.
-fn begin_row(page: &mut Markup, function: &Function, image: Option<&Image>) {
-    page.put_all(&[
-        Piece::Marks("<tr><th scope=row>"),
-        Piece::Link(function.entry),
-        Piece::Marks(match function.kind {
-            Kind::Reset => "<td>reset",
-            Kind::Handler => "<td>interrupts",
-            Kind::Called => "<td>calls",
-        }),
-    ]);
+fn begin_row(page: &mut Markup, names: &Names<'_>, function: &Function, image: Option<&Image>) {
+    page.put("<tr><th scope=row>");
+    write_link(page, names, function.entry);
+    page.put(match function.kind {
+        Kind::Reset => "<td>reset",
+        Kind::Handler => "<td>interrupts",
+        Kind::Called => "<td>calls",
+    });
     match image {
         Some(image) if function.kind == Kind::Handler => { vectors(page, image, function.entry) }
         _ => {}
@@ -66,7 +67,7 @@ fn begin_row(page: &mut Markup, function: &Function, image: Option<&Image>) {
 }
 
 /// What a function takes, calls, and where it is called.
-fn end_row(page: &mut Markup, function: &Function, callers: Option<&Vec<u16>>) {
+fn end_row(page: &mut Markup, names: &Names<'_>, function: &Function, callers: Option<&Vec<u16>>) {
     page.put_all(&[
         Piece::Marks("<td>"),
         Piece::Number(function.body.len()),
@@ -76,11 +77,12 @@ fn end_row(page: &mut Markup, function: &Function, callers: Option<&Vec<u16>>) {
         total_stack(function),
         Piece::Marks("<td class=a>"),
     ]);
-    called(page, function);
+    called(page, names, function);
     page.put("<td class=a>");
     if let Some(sites) = callers {
         for site in sites.iter() {
-            page.put_all(&[Piece::Link(*site), Piece::Marks(" ")]);
+            write_link(page, names, *site);
+            page.put(" ");
         }
     }
     page.put("\n")
@@ -107,11 +109,12 @@ pub fn vector_at(image: &Image, at: u16) -> Option<u16> {
 }
 
 /// The functions that one calls, each once.
-fn called(page: &mut Markup, function: &Function) {
+fn called(page: &mut Markup, names: &Names<'_>, function: &Function) {
     for k in 0..function.calls.len() {
         let to = function.calls[k].to;
         if !function.calls[..k].iter().any(|other| other.to == to) {
-            page.put_all(&[Piece::Link(to), Piece::Marks(" ")]);
+            write_link(page, names, to);
+            page.put(" ");
         }
     }
 }
@@ -123,6 +126,7 @@ const MOST_STEPS: usize = 24;
 fn worst_path(
     alloc: Global,
     page: &mut Markup,
+    names: &Names<'_>,
     report: &Report<'_>,
     program: &Program<'_>,
     functions: &Functions,
@@ -139,17 +143,17 @@ fn worst_path(
         Piece::Number(bytes),
         noun(bytes, " byte", " bytes"),
         Piece::Marks(", first at "),
-        Piece::Link(place),
     ]);
+    write_link(page, names, place);
     let steps = functions.path_to(alloc, program, depths, place)?;
-    path(page, functions, &steps);
+    path(page, names, functions, &steps);
     Ok(())
 }
 
 /// The steps of a way, from the deepest place upward.
-fn path(page: &mut Markup, functions: &Functions, steps: &Vec<Step>) {
+fn path(page: &mut Markup, names: &Names<'_>, functions: &Functions, steps: &Vec<Step>) {
     for step in steps.iter().take(MOST_STEPS) {
-        path_step(page, functions, *step);
+        path_step(page, names, functions, *step);
     }
     if steps.len() > MOST_STEPS {
         let more = steps.len().wrapping_sub(MOST_STEPS);
@@ -163,19 +167,20 @@ fn path(page: &mut Markup, functions: &Functions, steps: &Vec<Step>) {
 }
 
 /// A step of the way.
-fn path_step(page: &mut Markup, functions: &Functions, step: Step) {
+fn path_step(page: &mut Markup, names: &Names<'_>, functions: &Functions, step: Step) {
     match step.way {
-        Way::Interrupt => page.put_all(&[
-            Piece::Marks(", begun by an interrupt at "),
-            Piece::Link(step.at),
-        ]),
-        Way::Call => page.put_all(&[Piece::Marks(", called at "), Piece::Link(step.at)]),
+        Way::Interrupt => {
+            page.put(", begun by an interrupt at ");
+            write_link(page, names, step.at)
+        }
+        Way::Call => {
+            page.put(", called at ");
+            write_link(page, names, step.at)
+        }
         _ => {}
     }
-    page.put_all(&[
-        words_for(functions, step.function),
-        Piece::Link(step.function),
-    ])
+    page.put_all(&[words_for(functions, step.function)]);
+    write_link(page, names, step.function)
 }
 
 /// What stands in front of a function's address.

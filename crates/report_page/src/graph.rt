@@ -1,19 +1,21 @@
 //! A report as a graph for Graphviz.
 
+use crate::named::write_labels;
 use crate::words::verdict_word;
 use marked_text::{Markup, Piece};
 use no_memory::Memory;
 use report_lines::{Cause, Report};
 use report_program::{Link, Program, Site, Way};
 use std::alloc::Global;
+use symbol_lists::Names;
 
 /// The graph of a report: a box for each straight stretch, with a row for each address, and an arrow for each edge that
 /// leaves a stretch.
-pub fn graph_of(alloc: Global, report: &Report<'_>) -> Result<Vec<u8>, Memory> {
+pub fn graph_of(alloc: Global, report: &Report<'_>, names: &Names<'_>) -> Result<Vec<u8>, Memory> {
     let program = Program::of(alloc, report)?;
     let mut graph = Markup::new(alloc);
     open_graph(&mut graph, report);
-    boxes_of(&mut graph, &program);
+    boxes_of(&mut graph, names, &program);
     close(&mut graph);
     graph.finish()
 }
@@ -38,13 +40,13 @@ pub fn close(graph: &mut Markup) {
 const END: &str = "</table>>];\n";
 
 /// The boxes and the arrows of a program.
-pub fn boxes_of(graph: &mut Markup, program: &Program<'_>) {
+pub fn boxes_of(graph: &mut Markup, names: &Names<'_>, program: &Program<'_>) {
     let mut is_first = true;
     for site in program.sites.values() {
         if site.head == site.pc {
             begin_box(graph, is_first, site.pc);
         }
-        row(graph, site);
+        row(graph, names, site);
         is_first = false;
     }
     if !is_first {
@@ -68,7 +70,7 @@ fn begin_box(graph: &mut Markup, is_first: bool, head: u16) {
 }
 
 /// The row of an address.
-fn row(graph: &mut Markup, site: &Site<'_>) {
+fn row(graph: &mut Markup, names: &Names<'_>, site: &Site<'_>) {
     graph.put_all(&[
         Piece::Marks("<tr><td port=\""),
         Piece::Address(site.pc),
@@ -78,6 +80,9 @@ fn row(graph: &mut Markup, site: &Site<'_>) {
             "\" align=\"left\">"
         }),
         Piece::Address(site.pc),
+    ]);
+    write_labels(graph, names, site.pc);
+    graph.put_all(&[
         Piece::Marks(" "),
         match site.instr {
             Some(instr) => Piece::Text(instr.text),

@@ -5,12 +5,14 @@
 mod ask;
 mod call_graph;
 mod diff;
+mod diff_names;
 mod functions_table;
 mod given;
 mod graph;
 mod listing;
 mod map_strips;
 mod memory_table;
+mod named;
 mod opens;
 mod page;
 mod sets;
@@ -18,6 +20,6 @@ mod style;
 mod viewing;
 mod words;
 
-pub use ask::{Ask, Labels, ask_of, front_of};
+pub use ask::{Ask, Asked, Labels, Lists, ask_of, front_of};
 pub use given::given_instead;
 pub use viewing::{Shown, ViewError, view};

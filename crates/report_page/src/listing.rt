@@ -1,5 +1,6 @@
 //! The program by address.
 
+use crate::named::{memory_of, write_labels};
 use crate::opens::write_cause;
 use crate::sets::write_set;
 use crate::style::{COLUMNS, HEAD};
@@ -7,12 +8,13 @@ use crate::words::{noun, space_word};
 use marked_text::{Markup, Piece};
 use report_lines::{Access, Kind, Report};
 use report_program::{Depths, Link, Program, Site, Way, behind};
+use symbol_lists::Names;
 
 /// How many rows stand in one section. A browser lays out only the sections that it shows.
 const SECTION: usize = 256;
 
 /// The program by address.
-pub fn listing(page: &mut Markup, report: &Report<'_>, program: &Program<'_>) {
+pub fn listing(page: &mut Markup, names: &Names<'_>, report: &Report<'_>, program: &Program<'_>) {
     page.put_all(&[Piece::Marks(HEAD), Piece::Marks(COLUMNS)]);
     let depths = Depths::of(report);
     let mut rows = 0usize;
@@ -23,8 +25,8 @@ pub fn listing(page: &mut Markup, report: &Report<'_>, program: &Program<'_>) {
         if rows % SECTION == 0 {
             section(page);
         }
-        row(page, site);
-        details(page, site, depths);
+        row(page, names, site);
+        details(page, names, site, depths);
         front = Some(site);
     }
     page.put("</table></section>\n")
@@ -85,13 +87,14 @@ fn class_of(site: &Site<'_>) -> Piece<'static> {
 }
 
 /// The row of an address up to its ways.
-fn row(page: &mut Markup, site: &Site<'_>) {
+fn row(page: &mut Markup, names: &Names<'_>, site: &Site<'_>) {
     page.put_all(&[
         Piece::Marks("<tr id="),
         Piece::Address(site.pc),
         class_of(site),
         Piece::Link(site.pc),
     ]);
+    write_labels(page, names, site.pc);
     match site.instr {
         Some(instr) => page.put_all(&[
             Piece::Marks("<td class=b>"),
@@ -104,14 +107,14 @@ fn row(page: &mut Markup, site: &Site<'_>) {
 }
 
 /// The rest of the row, and why the site is open.
-fn details(page: &mut Markup, site: &Site<'_>, depths: Option<Depths>) {
+fn details(page: &mut Markup, names: &Names<'_>, site: &Site<'_>, depths: Option<Depths>) {
     page.put("<td class=w>");
-    links(page, &site.goes, "next ");
+    links(page, names, &site.goes, "next ");
     page.put("<td class=w>");
-    links(page, &site.comes, "above ");
-    accesses(page, site);
+    links(page, names, &site.comes, "above ");
+    accesses(page, names, site);
     stack(page, site, depths);
-    causes(page, site)
+    causes(page, names, site)
 }
 
 /// The class and the words of a way. A neighbour has a word of its own in either case.
@@ -128,7 +131,7 @@ fn words_of(way: Way, neighbour: &str) -> (&'static str, &str) {
 }
 
 /// The ways to other addresses, or from them.
-fn links(page: &mut Markup, links: &Vec<Link>, neighbour: &str) {
+fn links(page: &mut Markup, names: &Names<'_>, links: &Vec<Link>, neighbour: &str) {
     for link in links.iter() {
         let (class, words) = words_of(link.way, neighbour);
         page.put_all(&[
@@ -140,21 +143,25 @@ fn links(page: &mut Markup, links: &Vec<Link>, neighbour: &str) {
             Piece::Marks(words),
             Piece::Marks("</i>"),
             Piece::Address(link.at),
-            Piece::Marks("</a> "),
+            Piece::Marks("</a>"),
         ]);
+        if link.way != Way::Next {
+            write_labels(page, names, link.at);
+        }
+        page.put(" ");
     }
 }
 
 /// The accesses of a site.
-fn accesses(page: &mut Markup, site: &Site<'_>) {
+fn accesses(page: &mut Markup, names: &Names<'_>, site: &Site<'_>) {
     page.put("<td class=m>");
     for access in site.accesses.iter() {
-        write_access(page, access);
+        write_access(page, names, access);
     }
 }
 
 /// One access.
-fn write_access(page: &mut Markup, access: &Access<'_>) {
+fn write_access(page: &mut Markup, names: &Names<'_>, access: &Access<'_>) {
     page.put_all(&[
         Piece::Marks(match access.kind {
             Kind::ReadOne => "<span><i>reads 1 </i>",
@@ -164,7 +171,7 @@ fn write_access(page: &mut Markup, access: &Access<'_>) {
         }),
         space_word(access.space),
     ]);
-    write_set(page, &access.at);
+    write_set(page, &access.at, Some((names, memory_of(access.space))));
     page.put("</span> ")
 }
 
@@ -180,7 +187,7 @@ fn stack(page: &mut Markup, site: &Site<'_>, depths: Option<Depths>) {
             page.put(", ");
         }
         is_first = false;
-        write_set(page, set);
+        write_set(page, set, None);
     }
     page.put("\n")
 }
@@ -207,10 +214,10 @@ fn bar(page: &mut Markup, depths: Depths, (least, most): (u16, u16)) {
 }
 
 /// Why a site is open.
-fn causes(page: &mut Markup, site: &Site<'_>) {
+fn causes(page: &mut Markup, names: &Names<'_>, site: &Site<'_>) {
     for cause in site.causes.iter() {
         page.put("<tr class=y><td colspan=7>Open. ");
-        write_cause(page, cause);
+        write_cause(page, names, cause);
         page.put("\n");
     }
 }

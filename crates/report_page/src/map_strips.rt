@@ -1,11 +1,13 @@
 //! The picture of a memory.
 
+use crate::named::{BOLD, Marks, PLAIN, memory_of, write_names};
 use crate::words::noun;
 use marked_text::{Markup, Piece};
 use no_memory::Memory;
 use report_lines::Space;
 use report_program::{Map, Part, USES, Use};
 use std::alloc::Global;
+use symbol_lists::Names;
 
 /// How many unused bytes end an area.
 const GAP: usize = 64;
@@ -17,6 +19,7 @@ const MOST_RANGES: usize = 48;
 pub fn memories(
     alloc: Global,
     page: &mut Markup,
+    names: &Names<'_>,
     maps: &Vec<Map>,
     has_image: bool,
 ) -> Result<(), Memory> {
@@ -26,9 +29,9 @@ pub fn memories(
     for map in maps.iter() {
         let parts = map.parts(alloc)?;
         if !parts.is_empty() {
-            memory(page, map, &parts);
+            memory(page, names, map, &parts);
             if has_image {
-                unreached(page, &parts);
+                unreached(page, names, map.space, &parts);
             }
         }
     }
@@ -47,7 +50,7 @@ fn name_of(space: Space) -> Piece<'static> {
 }
 
 /// One memory.
-fn memory(page: &mut Markup, map: &Map, parts: &Vec<Part>) {
+fn memory(page: &mut Markup, names: &Names<'_>, map: &Map, parts: &Vec<Part>) {
     page.put_all(&[
         Piece::Marks("<figure><figcaption>"),
         name_of(map.space),
@@ -55,7 +58,7 @@ fn memory(page: &mut Markup, map: &Map, parts: &Vec<Part>) {
     ]);
     legend(page, map);
     page.put("</figcaption>\n");
-    areas(page, parts);
+    areas(page, names, map.space, parts);
     if map.unbounded > 0 {
         page.put_all(&[
             Piece::Marks("<p>Not in the picture: "),
@@ -106,19 +109,19 @@ fn address(at: usize) -> Piece<'static> {
 }
 
 /// The strips of a memory, each for an area whose bytes lie close together.
-fn areas(page: &mut Markup, parts: &Vec<Part>) {
+fn areas(page: &mut Markup, names: &Names<'_>, space: Space, parts: &Vec<Part>) {
     let mut first = 0usize;
     for k in 0..parts.len() {
         let is_last = k + 1 == parts.len() || parts[k + 1].from.saturating_sub(parts[k].to) >= GAP;
         if is_last && first <= k {
-            strip(page, &parts[first..k + 1]);
+            strip(page, names, space, &parts[first..k + 1]);
             first = k + 1;
         }
     }
 }
 
 /// The strip of an area.
-fn strip(page: &mut Markup, parts: &[Part]) {
+fn strip(page: &mut Markup, names: &Names<'_>, space: Space, parts: &[Part]) {
     let (Some(first), Some(last)) = (parts.first(), parts.last()) else {
         return;
     };
@@ -138,6 +141,7 @@ fn strip(page: &mut Markup, parts: &[Part]) {
     ]);
     for part in parts {
         bar(page, part, from, size);
+        title(page, names, space, part);
     }
     page.put("</svg></div>\n")
 }
@@ -157,23 +161,40 @@ fn bar(page: &mut Markup, part: &Part, from: usize, size: usize) {
         Piece::Number(width.max(2)),
         Piece::Marks(" height=20 class="),
         class_of(part.what),
-        Piece::Marks("><title>"),
+        Piece::Marks(">"),
+    ])
+}
+
+/// What is said of a part.
+fn title(page: &mut Markup, names: &Names<'_>, space: Space, part: &Part) {
+    page.put_all(&[
+        Piece::Marks("<title>"),
         address(part.from),
         Piece::Marks(" to "),
         address(part.to.wrapping_sub(1)),
+    ]);
+    part_names(page, names, space, part, PLAIN);
+    page.put_all(&[
         Piece::Marks(": "),
         Piece::Marks(part.what.words()),
         Piece::Marks("</title></rect>"),
     ])
 }
 
+/// The names of the first address of a part.
+fn part_names(page: &mut Markup, names: &Names<'_>, space: Space, part: &Part, marks: Marks) {
+    let first = (part.from & 0xFFFF) as u16;
+    write_names(page, names, memory_of(space), first, marks)
+}
+
 /// The ranges of the image that nothing reaches.
-fn unreached(page: &mut Markup, parts: &Vec<Part>) {
+fn unreached(page: &mut Markup, names: &Names<'_>, space: Space, parts: &Vec<Part>) {
     let mut listed = 0usize;
     for part in parts.iter() {
         if part.what == Use::Unreached {
             if listed < MOST_RANGES {
                 range(page, part, listed == 0);
+                part_names(page, names, space, part, BOLD);
             }
             listed = listed.saturating_add(1);
         }

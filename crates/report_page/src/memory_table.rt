@@ -1,18 +1,26 @@
 //! The tables of memory by address.
 
+use crate::named::{memory_of, write_link};
 use crate::sets::write_set;
 use crate::words::space_word;
 use marked_text::{Markup, Piece};
 use report_program::{Accesses, Functions, Kind, Row};
+use symbol_lists::Names;
 
 /// The accesses by address, and those of the stack apart.
-pub fn memory_tables(page: &mut Markup, functions: &Functions, accesses: &Accesses<'_>) {
+pub fn memory_tables(
+    page: &mut Markup,
+    names: &Names<'_>,
+    functions: &Functions,
+    accesses: &Accesses<'_>,
+) {
     if accesses.rows.is_empty() {
         return;
     }
     page.put("<h2 id=memory>Memory by address</h2>\n");
     table(
         page,
+        names,
         functions,
         accesses,
         false,
@@ -24,6 +32,7 @@ pub fn memory_tables(page: &mut Markup, functions: &Functions, accesses: &Access
     page.put("<details><summary>Accesses within the stack</summary>\n");
     table(
         page,
+        names,
         functions,
         accesses,
         true,
@@ -35,6 +44,7 @@ pub fn memory_tables(page: &mut Markup, functions: &Functions, accesses: &Access
 /// The accesses of the stack, or all others.
 fn table(
     page: &mut Markup,
+    names: &Names<'_>,
     functions: &Functions,
     accesses: &Accesses<'_>,
     of_stack: bool,
@@ -49,14 +59,14 @@ fn table(
     ]);
     for row in accesses.rows.values() {
         if row.is_stack == of_stack {
-            memory_row(page, functions, row);
+            memory_row(page, names, functions, row);
         }
     }
     page.put("</table></div>\n")
 }
 
 /// The row of some addresses.
-fn memory_row(page: &mut Markup, functions: &Functions, row: &Row<'_>) {
+fn memory_row(page: &mut Markup, names: &Names<'_>, functions: &Functions, row: &Row<'_>) {
     let is_shared = row.is_shared() && !row.is_stack;
     page.put_all(&[
         Piece::Marks(if is_shared {
@@ -66,24 +76,22 @@ fn memory_row(page: &mut Markup, functions: &Functions, row: &Row<'_>) {
         }),
         space_word(row.space),
     ]);
-    write_set(page, &row.at);
+    write_set(page, &row.at, Some((names, memory_of(row.space))));
     page.put("<td class=a>");
-    places(page, &row.readers);
+    places(page, names, &row.readers);
     page.put("<td class=a>");
-    places(page, &row.writers);
+    places(page, names, &row.writers);
     page.put("<td class=a>");
-    roots(page, functions, row);
+    roots(page, names, functions, row);
     page.put(if is_shared { "<em>shared</em>\n" } else { "\n" })
 }
 
 /// From where control comes to the accesses of a row.
-fn roots(page: &mut Markup, functions: &Functions, row: &Row<'_>) {
+fn roots(page: &mut Markup, names: &Names<'_>, functions: &Functions, row: &Row<'_>) {
     for root in row.roots.iter() {
-        page.put_all(&[
-            begin_of(functions, *root),
-            Piece::Link(*root),
-            Piece::Marks(" "),
-        ]);
+        page.put_all(&[begin_of(functions, *root)]);
+        write_link(page, names, *root);
+        page.put(" ");
     }
 }
 
@@ -99,9 +107,10 @@ fn begin_of(functions: &Functions, root: u16) -> Piece<'static> {
 const MOST_PLACES: usize = 24;
 
 /// Links to some instructions, and how many more there are.
-fn places(page: &mut Markup, sites: &Vec<u16>) {
+fn places(page: &mut Markup, names: &Names<'_>, sites: &Vec<u16>) {
     for site in sites.iter().take(MOST_PLACES) {
-        page.put_all(&[Piece::Link(*site), Piece::Marks(" ")]);
+        write_link(page, names, *site);
+        page.put(" ");
     }
     if sites.len() > MOST_PLACES {
         page.put_all(&[

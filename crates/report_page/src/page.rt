@@ -5,6 +5,7 @@ use crate::functions_table::{functions_table, vector_at};
 use crate::listing::listing;
 use crate::map_strips::memories;
 use crate::memory_table::memory_tables;
+use crate::named::write_link;
 use crate::opens::open_sites;
 use crate::style::{NOTES, STYLE};
 use crate::words::{noun, verdict_word};
@@ -14,6 +15,7 @@ use no_memory::Memory;
 use report_lines::{Line, Report};
 use report_program::{Accesses, Counts, Depths, Functions, Program, Roots, maps_of};
 use std::alloc::Global;
+use symbol_lists::Names;
 
 /// The page of a report, whose text this is, and of its image, where that is there.
 pub fn page_of(
@@ -22,29 +24,31 @@ pub fn page_of(
     text: &[u8],
     labels: Labels<'_>,
     image: Option<&Image>,
+    names: &Names<'_>,
 ) -> Result<Vec<u8>, Memory> {
     let program = Program::of(alloc, report)?;
     let mut page = Markup::new(alloc);
     head(&mut page, report, labels);
-    overview(&mut page, report);
-    summaries(alloc, &mut page, report, &program, image)?;
-    listing(&mut page, report, &program);
+    overview(&mut page, names, report);
+    summaries(alloc, &mut page, names, report, &program, image)?;
+    listing(&mut page, names, report, &program);
     lines(&mut page, text);
     page.finish()
 }
 
 /// The verdict, how many lines there are, and the open sites.
-fn overview(page: &mut Markup, report: &Report<'_>) {
+fn overview(page: &mut Markup, names: &Names<'_>, report: &Report<'_>) {
     let counts = Counts::of(report);
     verdict(page, report, counts);
-    facts(page, report, counts);
-    open_sites(page, report, counts)
+    facts(page, names, report, counts);
+    open_sites(page, names, report, counts)
 }
 
 /// What the lines say of functions and of memory.
 fn summaries(
     alloc: Global,
     page: &mut Markup,
+    names: &Names<'_>,
     report: &Report<'_>,
     program: &Program<'_>,
     image: Option<&Image>,
@@ -53,12 +57,12 @@ fn summaries(
     // The MCS-51 has no vectors in its image.
     let vectors = if report.grows_up() { None } else { image };
     let functions = Functions::of(alloc, program, report, reset_of(vectors))?;
-    functions_table(alloc, page, report, program, &functions, vectors)?;
+    functions_table(alloc, page, names, report, program, &functions, vectors)?;
     let roots = Roots::of(alloc, &functions)?;
     let accesses = Accesses::of(alloc, report, depths, &roots)?;
-    memory_tables(page, &functions, &accesses);
+    memory_tables(page, names, &functions, &accesses);
     let maps = maps_of(alloc, report, image)?;
-    memories(alloc, page, &maps, image.is_some())
+    memories(alloc, page, names, &maps, image.is_some())
 }
 
 /// Where the program of an image of the MSP430 begins.
@@ -136,14 +140,14 @@ fn verdict(page: &mut Markup, report: &Report<'_>, counts: Counts) {
 }
 
 /// The stack's extreme, and how many lines there are.
-fn facts(page: &mut Markup, report: &Report<'_>, counts: Counts) {
+fn facts(page: &mut Markup, names: &Names<'_>, report: &Report<'_>, counts: Counts) {
     page.put(if report.grows_up() {
         "<dl>\n<div><dt>Highest stack pointer<dd>"
     } else {
         "<dl>\n<div><dt>Lowest stack pointer<dd>"
     });
-    extreme(page, report);
-    unknown_places(page, report);
+    extreme(page, names, report);
+    unknown_places(page, names, report);
     page.put_all(&[
         Piece::Marks("</div>\n<div><dt>Instructions<dd>"),
         Piece::Number(counts.instrs),
@@ -169,7 +173,7 @@ fn pointer(report: &Report<'_>, value: u16) -> Piece<'static> {
 }
 
 /// The stack pointer's extreme, and where it has it.
-fn extreme(page: &mut Markup, report: &Report<'_>) {
+fn extreme(page: &mut Markup, names: &Names<'_>, report: &Report<'_>) {
     let Some(depths) = Depths::of(report) else {
         return page.put("not known");
     };
@@ -185,13 +189,14 @@ fn extreme(page: &mut Markup, report: &Report<'_>) {
         pointer(report, depths.top),
     ]);
     if let Some(place) = depths.deepest_place(report) {
-        page.put_all(&[Piece::Marks(", first at "), Piece::Link(place)]);
+        page.put(", first at ");
+        write_link(page, names, place);
     }
     page.put("</small>")
 }
 
 /// At how many places the stack pointer can have any value.
-fn unknown_places(page: &mut Markup, report: &Report<'_>) {
+fn unknown_places(page: &mut Markup, names: &Names<'_>, report: &Report<'_>) {
     let count = report.summary.whole;
     if count == 0 {
         return;
@@ -203,7 +208,8 @@ fn unknown_places(page: &mut Markup, report: &Report<'_>) {
         Piece::Marks(" it can have any value, and isn't counted here"),
     ]);
     if let Some(place) = unknown_place(report) {
-        page.put_all(&[Piece::Marks(": "), Piece::Link(place)]);
+        page.put(": ");
+        write_link(page, names, place);
     }
     page.put("</small>")
 }

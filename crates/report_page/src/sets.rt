@@ -1,8 +1,10 @@
 //! Sets in words.
 
+use crate::named::{BOLD, write_names};
 use hex_digits::{byte, word};
 use marked_text::{Markup, Piece};
 use report_lines::{Form, Set, Width};
+use symbol_lists::{Names, Place};
 
 /// A number with the digits of a width.
 fn digits(value: u16, width: Option<Width>) -> Piece<'static> {
@@ -12,16 +14,26 @@ fn digits(value: u16, width: Option<Width>) -> Piece<'static> {
     }
 }
 
-/// Writes a set.
-pub fn write_set(page: &mut Markup, set: &Set<'_>) {
+/// The names of the addresses of a memory, where numbers are addresses.
+pub type Naming<'x, 'a> = Option<(&'x Names<'a>, Place)>;
+
+/// Writes the names of a number, where it is an address.
+fn write_naming(page: &mut Markup, naming: Naming<'_, '_>, value: u16) {
+    if let Some((names, place)) = naming {
+        write_names(page, names, place, value, BOLD);
+    }
+}
+
+/// Writes a set, with the names of its addresses.
+pub fn write_set(page: &mut Markup, set: &Set<'_>, naming: Naming<'_, '_>) {
     if set.text == b"0000/2/8000".as_slice() {
         return page.put("any even");
     }
     match set.form {
         Form::Every => page.put("any"),
         Form::List => match step_of(set.text) {
-            Some(step) => span(page, set.least, set.greatest, step, set.width),
-            None => list(page, set.text),
+            Some(step) => span(page, (set.least, set.greatest), step, set.width, naming),
+            None => list(page, set.text, naming),
         },
         Form::Run {
             base,
@@ -29,10 +41,10 @@ pub fn write_set(page: &mut Markup, set: &Set<'_>) {
             count,
         } => span(
             page,
-            base,
-            last_of(base, stride, count, set.width),
+            (base, last_of(base, stride, count, set.width)),
             stride,
             set.width,
+            naming,
         ),
     }
 }
@@ -58,12 +70,17 @@ fn step_of(text: &[u8]) -> Option<u16> {
 }
 
 /// Writes numbers in equal steps by their ends.
-fn span(page: &mut Markup, first: u16, last: u16, step: u16, width: Option<Width>) {
-    page.put_all(&[
-        digits(first, width),
-        Piece::Marks(" to "),
-        digits(last, width),
-    ]);
+fn span(
+    page: &mut Markup,
+    (first, last): (u16, u16),
+    step: u16,
+    width: Option<Width>,
+    naming: Naming<'_, '_>,
+) {
+    page.put_all(&[digits(first, width)]);
+    write_naming(page, naming, first);
+    page.put_all(&[Piece::Marks(" to "), digits(last, width)]);
+    write_naming(page, naming, last);
     if step == 1 {
         return;
     }
@@ -71,11 +88,14 @@ fn span(page: &mut Markup, first: u16, last: u16, step: u16, width: Option<Width
 }
 
 /// Writes the numbers of a list.
-fn list(page: &mut Markup, text: &[u8]) {
+fn list(page: &mut Markup, text: &[u8], naming: Naming<'_, '_>) {
     let mut is_first = true;
     for part in text.split(|byte| *byte == b',') {
         let between = if is_first { "" } else { ", " };
         page.put_all(&[Piece::Marks(between), Piece::Text(part)]);
+        if let Some(value) = byte(part).or(word(part)) {
+            write_naming(page, naming, value);
+        }
         is_first = false;
     }
 }

@@ -50,6 +50,7 @@ tr:target>*{background:var(--mark)}
 .s>*{border-top:1px solid var(--line);padding-top:5px}
 .b{color:var(--dim)}
 .t{font-weight:600}
+td b,th b,p b,li b,dd b{font:600 12px var(--sans);color:var(--call)}
 td em{font-style:normal;font-weight:400;color:var(--dim)}
 .w i,.m i{font:12px var(--sans);color:var(--dim)}
 .w,.m{padding-right:4px}
@@ -78,7 +79,7 @@ summary{cursor:pointer;color:var(--link)}
 pre{font-size:12px;line-height:1.45;overflow-x:auto;background:var(--soft);padding:10px 14px}
 .notes{columns:2 380px;column-gap:40px;color:var(--dim);font-size:14px}
 .notes p{margin:0 0 8px;break-inside:avoid}
-.notes b{color:var(--fg)}
+.notes b{font:inherit;font-weight:600;color:var(--fg)}
 @media(max-width:700px){main{padding:18px 14px 40px}.strip{display:block}.strip svg{width:100%}}
 @media print{body{font-size:10pt}main{max-width:none;padding:0}table{font-size:8pt}section{content-visibility:visible}section,.scroll{overflow:visible}tr,dl div,.verdict{break-inside:avoid}a{color:inherit}h2{break-after:avoid}}
 ";

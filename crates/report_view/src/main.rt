@@ -2,10 +2,11 @@
 #![tactic(auto)]
 
 use report_lines::Refusal;
-use report_page::{Ask, ViewError, ask_of, given_instead, view};
+use report_page::{Asked, ViewError, ask_of, given_instead, view};
 use std::alloc::Global;
 use std::process::ExitCode;
 use std::{env, io};
+use symbol_lists::SymbolError;
 use vsa_io::{Source, StdinSource, StdoutSink, write_all};
 
 /// How a run ends.
@@ -55,11 +56,24 @@ fn tell_refusal(rt: &impl Eprint, which: &str, refusal: Refusal, text: &[u8]) ->
     eprintln!(rt; "view: {which}line {line}: {sentence}")
 }
 
+/// Tells which line of a list of symbols is refused.
+fn tell_names(rt: &impl Eprint, which: &str, error: SymbolError) -> io::Result<()> {
+    let sentence = error.sentence();
+    match error {
+        SymbolError::Bad { line, form: _ } => {
+            eprintln!(rt; "view: {which}, line {line}: {sentence}")
+        }
+        SymbolError::Memory => eprintln!(rt; "view: {sentence}"),
+    }
+}
+
 /// Tells why nothing is shown.
 fn tell(rt: &impl Eprint, error: ViewError, text: &[u8]) -> io::Result<()> {
     match error {
         ViewError::Refused(refusal) => tell_refusal(rt, "", refusal, text),
         ViewError::RefusedSecond(refusal) => tell_refusal(rt, "the second report, ", refusal, text),
+        ViewError::BadNames(error) => tell_names(rt, "the list of symbols", error),
+        ViewError::BadSecondNames(error) => { tell_names(rt, "the second list of symbols", error) }
         ViewError::BadImage(line) => {
             eprintln!(rt;
                 "view: line {line} of the image's text is faulty; ./vsa says what is wrong with it."
@@ -91,13 +105,13 @@ fn words(rt: &HostRuntime) -> io::Result<Vec<String>> {
 }
 
 /// Reads the report, and writes what is asked.
-fn run(rt: &HostRuntime, ask: Ask<'_>) -> Status {
+fn run(rt: &HostRuntime, asked: Asked<'_>) -> Status {
     let text = match input(rt.alloc(), &mut StdinSource::new(rt)) {
         Ok(text) => text,
         Err(InputError::Failed) => return Status::ReadFault,
         Err(InputError::Memory) => return Status::Memory,
     };
-    match view(rt.alloc(), ask, &text) {
+    match view(rt.alloc(), asked, &text) {
         Ok(shown) => match write_all(&mut StdoutSink::new(rt), shown.text.as_slice()) {
             Ok(()) if shown.differs => Status::Differs,
             Ok(()) => Status::Done,
@@ -117,9 +131,9 @@ fn main(rt: HostRuntime) -> ExitCode {
     let Ok(words) = words(&rt) else {
         return ExitCode::from(Status::Memory as u8);
     };
-    let Some(ask) = ask_of(words.as_slice()) else {
+    let Some(asked) = ask_of(words.as_slice()) else {
         let _ = usage(&rt);
         return ExitCode::from(Status::Usage as u8);
     };
-    ExitCode::from(run(&rt, ask) as u8)
+    ExitCode::from(run(&rt, asked) as u8)
 }

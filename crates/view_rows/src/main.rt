@@ -1,7 +1,7 @@
 //! Rows of pages, graphs and differences of reports: the standard output says how many lines of the standard input hold, and
 //! which don't.
 //!
-//! `new` begins a text, `+ LINE` adds a line to it, and `edges` an edge from each of a hundred addresses to each. `$ WORDS`
+//! `new` begins a text, `list` a list of symbols behind it, `+ LINE` adds a line to it, and `edges` an edge from each of a hundred addresses to each. `$ WORDS`
 //! asks what the words ask of the text, as `./view WORDS` does. Behind it `N PART` holds where the answer has the part so
 //! often, `begins PART` where it begins so, and `ends PART` where it ends so; `~` is a line feed. `front N` holds where so many
 //! bytes of the text are its first report.
@@ -11,12 +11,23 @@ use report_page::{ViewError, ask_of, front_of, given_instead, view};
 use row_parts::{add_line, tell, words_of};
 use std::alloc::{AllocError, Global};
 use std::{io, str};
+use symbol_lists::SymbolError;
 
 /// A text, and the answer to what was asked of it last.
 #[derive(Drop)]
 struct Bench {
     text: String,
+    /// Where its lists of symbols begin.
+    lists: Vec<usize>,
     answer: String,
+}
+
+/// What is said of a list of symbols that is refused.
+fn bad_names(alloc: Global, which: &str, error: SymbolError) -> Result<String, AllocError> {
+    match error {
+        SymbolError::Bad { line, form: _ } => format!(in alloc; "{which} line {line}"),
+        SymbolError::Memory => Err(AllocError),
+    }
 }
 
 /// What is said of a text that isn't shown.
@@ -27,6 +38,8 @@ fn said(alloc: Global, error: ViewError, text: &[u8]) -> Result<String, AllocErr
             None => format!(in alloc; "line {}", refusal.line),
         },
         ViewError::RefusedSecond(refusal) => format!(in alloc; "second line {}", refusal.line),
+        ViewError::BadNames(error) => bad_names(alloc, "names", error),
+        ViewError::BadSecondNames(error) => bad_names(alloc, "second names", error),
         ViewError::BadImage(line) => format!(in alloc; "image line {line}"),
         ViewError::Foreign(pc) => format!(in alloc; "foreign {pc:04X}"),
         ViewError::NoFunction(pc) => format!(in alloc; "no function {pc:04X}"),
@@ -34,9 +47,34 @@ fn said(alloc: Global, error: ViewError, text: &[u8]) -> Result<String, AllocErr
     }
 }
 
-/// The answer to words about a text.
-fn answer_to(alloc: Global, words: &str, text: &[u8]) -> Result<String, AllocError> {
-    let words = words_of(alloc, words)?;
+/// Adds how many bytes each list of symbols has that begins there, in a text of so many bytes.
+fn add_lengths(
+    alloc: Global,
+    words: &mut Vec<String>,
+    lists: &[usize],
+    size: usize,
+) -> Result<(), AllocError> {
+    for k in 0..lists.len() {
+        let end = if k + 1 < lists.len() {
+            lists[k + 1]
+        } else {
+            size
+        };
+        let length = end.saturating_sub(lists[k]);
+        words.push(format!(in alloc; "names={length}")?)?;
+    }
+    Ok(())
+}
+
+/// The answer to words about a text, in which lists of symbols begin there.
+fn answer_to(
+    alloc: Global,
+    words: &str,
+    text: &[u8],
+    lists: &[usize],
+) -> Result<String, AllocError> {
+    let mut words = words_of(alloc, words)?;
+    add_lengths(alloc, &mut words, lists, text.len())?;
     let Some(ask) = ask_of(words.as_slice()) else {
         return String::from_str(alloc, "other words");
     };
@@ -65,10 +103,17 @@ impl Bench {
         let (sign, rest) = line.split_once(' ').unwrap_or((line, ""));
         match sign {
             "" | "#" => return Ok(None),
-            "new" => self.text.clear(),
+            "new" => {
+                self.text.clear();
+                self.lists.clear();
+            }
+            "list" => self.lists.push(self.text.len())?,
             "+" => add_line(&mut self.text, rest)?,
             "edges" => add_edges(&mut self.text)?,
-            "$" => self.answer = answer_to(alloc, rest, self.text.as_bytes())?,
+            "$" => {
+                let lists = self.lists.as_slice();
+                self.answer = answer_to(alloc, rest, self.text.as_bytes(), lists)?;
+            }
             _ => return Ok(Some(self.holds(alloc, sign, rest)?)),
         }
         Ok(None)
@@ -91,6 +136,7 @@ fn main(rt: HostRuntime) -> io::Result<()> {
     let alloc = rt.alloc();
     let mut bench = Bench {
         text: String::new(alloc),
+        lists: Vec::new(alloc),
         answer: String::new(alloc),
     };
     tell(rt, |line| bench.take(alloc, line))
