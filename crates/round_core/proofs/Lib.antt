@@ -1,4 +1,5 @@
 pub mod AheadLemmas
+pub mod BeginningLemmas
 pub mod Cases
 pub mod ClaimEvent
 pub mod ClaimLemmas

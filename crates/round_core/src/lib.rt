@@ -4,6 +4,7 @@
 
 mod agenda;
 mod ahead;
+mod beginning;
 mod book;
 mod candidates;
 mod claim;
