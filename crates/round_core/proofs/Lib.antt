@@ -17,6 +17,7 @@ pub mod PostEvent
 pub mod PostLemmas
 pub mod RaiseLemmas
 pub mod RaisedLemmas
+pub mod RenewalLemmas
 pub mod ShownLemmas
 pub mod TableLemmas
 pub mod TurnsLemmas

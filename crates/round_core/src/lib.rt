@@ -20,6 +20,7 @@ mod places;
 mod post;
 mod raise;
 mod raised;
+mod renewal;
 mod spent;
 mod table;
 mod ticket;
