@@ -10,7 +10,7 @@ use Rattle.book_rules.specs.declared.event.Event.TheVariants.{Claim, GiveBack}
 use Rattle.round_core.specs.declared.parts.Parts.{Parts}
 use Rattle.round_core.specs.declared.place.Place.{Place}
 use Rattle.book_rules.specs.declared.versions.Versions.{Versions}
-use Rattle.book_rules.specs.Machine.{BookState, Held, Out, out_at, without, with_out, inputs_of, versions_of, replay, IsClaimable, IsFirst, IsLegal, IsLegalJournal, NoneClaimable}
+use Rattle.book_rules.specs.Machine.{BookState, Held, Out, after, out_at, without, with_out, inputs_of, versions_of, replay, IsClaimable, IsFirst, IsLegal, IsLegalJournal, NoneClaimable}
 use Rattle.round_core.specs.Claims.{placed, IsNext}
 use Rattle.book_rules.specs.Kept.{Kept, with_event}
 use Rattle.round_core.specs.Shown.{Shows, IsBook, StaysShown}
@@ -33,25 +33,32 @@ module _ {A : Type 0} (m : Analysis A) where
       ∙ ap₂ (λ s v. b.out ++ ticket s v t.at t.exit (versions_of b.nodes u) b.nodes ∷ []) (sym k.seat_is) (sym k.unit_is)
       ∙ ap₂ (λ v hs. b.out ++ ticket t.seat t.unit t.at t.exit v hs ∷ []) (sym k.versions_are) (sym k.nodes_are)
 
-  claim-behind : (journal journal' : List Event) (seat : ℕ) (u : WorkUnit) (t : Out A) → journal' ≡ journal ++ Claim seat u ∷ []
-      → IsTicketOf (replay m journal).nodes seat u t → replay m journal' ≡ behind (replay m journal) ((replay m journal).out ++ t ∷ [])
-  claim-behind journal journal' seat u t e k =
-      ap (λ j. replay m j) e ∙ replay-push m journal (Claim seat u) ∙ claim-leaves m (replay m journal) seat u
-      ∙ ap (λ os. behind (replay m journal) os) (out-is (replay m journal) seat u t k)
+  -- any book behind a claim, whose unit is out then with its ticket
+  pub claim-is : (b : BookState A) (p : Parts A) (seat : ℕ) (u : WorkUnit) (t : Out A) → Shows b p → IsTicketOf p.nodes.rows seat u t
+      → after m b (Claim seat u) ≡ behind b (b.out ++ t ∷ [])
+  claim-is b p seat u t s k =
+      claim-leaves m b seat u ∙ ap (λ os. behind b os) (out-is b seat u t (subst (λ hs. IsTicketOf hs seat u t) s.nodes k))
 
-  -- the book behind a claim
-  pub claimed : (journal : List Event) (p p' : Parts A) (seat : ℕ) (u : WorkUnit) (place : Place) (t : Out A)
-      → Shows (replay m journal) p → IsFirst (replay m journal) u → placed (replay m journal).nodes u ≡ Some place
-      → IsTicketOf p.nodes.rows seat u t
+  pub claimed-shown : (b : BookState A) (p p' : Parts A) (seat : ℕ) (u : WorkUnit) (t : Out A) → Shows b p → IsTicketOf p.nodes.rows seat u t
+      → Shows (behind b (b.out ++ t ∷ [])) p' → Shows (after m b (Claim seat u)) p'
+  claimed-shown b p p' seat u t s k s' = subst (λ c. Shows c p') (sym (claim-is b p seat u t s k)) s'
+
+  pub claimed-out : (b : BookState A) (p : Parts A) (seat : ℕ) (u : WorkUnit) (t : Out A) → Shows b p → IsTicketOf p.nodes.rows seat u t
+      → out_at b.out u ≡ None → out_at (after m b (Claim seat u)).out t.unit ≡ Some t
+  claimed-out b p seat u t s k home =
+      ap (λ c. out_at c.out t.unit) (claim-is b p seat u t s k) ∙ out_at-last b.out t t.unit (ap (λ v. out_at b.out v) k.unit_is ∙ home)
+      ∙ if_true _ _ _ (same_unit-refl t.unit)
+
+  -- the book of a journal behind a claim
+  claimed : (journal : List Event) (p p' : Parts A) (seat : ℕ) (u : WorkUnit) (t : Out A)
+      → Shows (replay m journal) p → IsFirst (replay m journal) u → IsTicketOf p.nodes.rows seat u t
       → p'.turns.journal ≡ journal ++ Claim seat u ∷ [] → Shows (behind (replay m journal) ((replay m journal).out ++ t ∷ [])) p'
       → Shows (replay m p'.turns.journal) p' × (out_at (replay m p'.turns.journal).out t.unit ≡ Some t)
-  claimed journal p p' seat u place t s first at k e s' =
+  claimed journal p p' seat u t s first k e s' =
       let b = replay m journal in
-      let k' : IsTicketOf b.nodes seat u t = subst (λ hs. IsTicketOf hs seat u t) s.nodes k in
-      let back = claim-behind journal p'.turns.journal seat u t e k' in
-      let home : out_at b.out t.unit ≡ None = ap (λ v. out_at b.out v) k.unit_is ∙ first.claimable.at_home in (
-        subst (λ c. Shows c p') (sym back) s',
-        ap (λ c. out_at c.out t.unit) back ∙ out_at-last b.out t t.unit home ∙ if_true _ _ _ (same_unit-refl t.unit),
+      let back = ap (λ j. replay m j) e ∙ replay-push m journal (Claim seat u) in (
+        subst (λ c. Shows c p') (sym back) (claimed-shown b p p' seat u t s k s'),
+        ap (λ c. out_at c.out t.unit) back ∙ claimed-out b p seat u t s k first.claimable.at_home,
       )
 
   -- the book behind a give-back
@@ -87,7 +94,7 @@ first_out m p q p' seat found place u t book stays same first is k more taken =
     let s = stays b book.shows in
     let f = match_some (NoneClaimable b) (λ r. IsFirst b r.1 × (placed b.nodes r.1 ≡ Some r.0)) found (place, u) is first in
     let journal = more ∙ ap (λ j. j ++ Claim seat u ∷ []) same in
-    let c = claimed m p.turns.journal q p' seat u place t s f.0 f.1 k journal (taken b t s f.0.claimable f.1 k.unit_is) in (
+    let c = claimed m p.turns.journal q p' seat u t s f.0 k journal (taken b t s f.0.claimable f.1 k.unit_is) in (
       record { shows = c.0; legal = legal-more m p.turns.journal p'.turns.journal (Claim seat u) journal book.legal f.0 },
       f.0,
       journal,

@@ -1,4 +1,5 @@
 pub mod AheadLemmas
+pub mod BeginningLemmas
 pub mod Cases
 pub mod ClaimEvent
 pub mod ClaimLemmas
@@ -16,6 +17,7 @@ pub mod PostEvent
 pub mod PostLemmas
 pub mod RaiseLemmas
 pub mod RaisedLemmas
+pub mod RenewalLemmas
 pub mod ShownLemmas
 pub mod TableLemmas
 pub mod TurnsLemmas

@@ -1,12 +1,13 @@
 -- The event of a post.
 use Rattle.std.specs.Prelude.{◌≡◌, ℕ, Some, List, [], ◌∷◌, ◌++◌, length}
 use Rattle.std.proofs.Common.{sym, ◌∙◌, ap, subst, inl, inr}
+use Rattle.call_context.specs.declared.node.Unit.{Unit as WorkUnit}
 use Rattle.chip_analysis.specs.Analysis.{Analysis}
 use Rattle.chip_analysis.specs.declared.chip.Work.{Work}
 use Rattle.book_rules.specs.declared.event.Event.{Event}
 use Rattle.book_rules.specs.declared.event.Event.TheVariants.{Post}
 use Rattle.round_core.specs.declared.parts.Parts.{Parts}
-use Rattle.book_rules.specs.Machine.{BookState, Held, Out, out_at, without, with_done, all_raised, posted, replay}
+use Rattle.book_rules.specs.Machine.{BookState, Held, Out, after, out_at, without, with_done, all_raised, posted, replay}
 use Rattle.round_core.specs.Agenda.{IsIn}
 use Rattle.round_core.specs.Expected.{Grows, ExpectsRows, ExpectsUnit}
 use Rattle.round_core.specs.Prepared.{IsPrepared}
@@ -57,28 +58,22 @@ module _ {A : Type 0} (m : Analysis A) where
     out = without b.out o.unit;
   }
 
-  post-behind : (journal journal' : List Event) (seat : ℕ) (o : Out A) (work : Work A) (raised : List (Held A))
-      → journal' ≡ journal ++ Post seat o.unit ∷ [] → out_at (replay m journal).out o.unit ≡ Some o → work ≡ m.work o.unit o.at o.exit
-      → with_all (replay m journal).nodes raised ≡ all_raised m (replay m journal).nodes work.posts
-      → replay m journal' ≡ with_nodes (replay m journal) o work (with_all (replay m journal).nodes raised)
-  post-behind journal journal' seat o work raised e is own rise =
-      ap (λ j. replay m j) e ∙ replay-push m journal (Post seat o.unit) ∙ post-leaves m (replay m journal) seat o.unit
-      ∙ ap (λ t. posted m (replay m journal) t) is
-      ∙ ap (λ w. with_work (replay m journal) o w) (sym own)
-      ∙ ap (λ hs. with_nodes (replay m journal) o work hs) (sym rise)
+  post-behind : (b : BookState A) (seat : ℕ) (o : Out A) (work : Work A) (raised : List (Held A)) → out_at b.out o.unit ≡ Some o
+      → work ≡ m.work o.unit o.at o.exit → with_all b.nodes raised ≡ all_raised m b.nodes work.posts
+      → after m b (Post seat o.unit) ≡ with_nodes b o work (with_all b.nodes raised)
+  post-behind b seat o work raised is own rise =
+      post-leaves m b seat o.unit ∙ ap (λ t. posted m b t) is ∙ ap (λ w. with_work b o w) (sym own)
+      ∙ ap (λ hs. with_nodes b o work hs) (sym rise)
 
-  -- the book behind a post
-  pub posted-shown : (journal : List Event) (p q p' : Parts A) (seat : ℕ) (o : Out A) (work : Work A) (raised : List (Held A))
-      → Shows (replay m journal) p → p.turns.journal ≡ journal → out_at (replay m journal).out o.unit ≡ Some o
-      → work ≡ m.work o.unit o.at o.exit
+  -- any book behind a post
+  pub posted-shown : (b : BookState A) (p q p' : Parts A) (seat : ℕ) (o : Out A) (work : Work A) (raised : List (Held A))
+      → Shows b p → out_at b.out o.unit ≡ Some o → work ≡ m.work o.unit o.at o.exit
       → IsPrepared p q o.unit o.versions work.waits raised → with_all p.nodes.rows raised ≡ all_raised m p.nodes.rows work.posts
       → p'.nodes.rows ≡ with_all q.nodes.rows raised
       → p'.works.rows ≡ with_done q.works.rows (record { unit = o.unit; work = work; versions = o.versions })
-      → p'.turns.journal ≡ q.turns.journal ++ Post seat o.unit ∷ [] → TakesHome q.turns.out o.unit p'.turns.out
-      → p'.turns.returned ≡ q.turns.returned → p'.agenda ≡ q.agenda
-      → Shows (replay m p'.turns.journal) p'
-  posted-shown journal p q p' seat o work raised s was is own ready rise nodes works event home returned agenda =
-      let b = replay m journal in
+      → TakesHome q.turns.out o.unit p'.turns.out → p'.turns.returned ≡ q.turns.returned → p'.agenda ≡ q.agenda
+      → Shows (after m b (Post seat o.unit)) p'
+  posted-shown b p q p' seat o work raised s is own ready rise nodes works home returned agenda =
       let g = ready.agenda in
       let mid = g.0 in
       let er : ExpectsRows b.done p.agenda mid (with_all b.nodes raised) raised =
@@ -93,6 +88,10 @@ module _ {A : Type 0} (m : Analysis A) where
       (works ∙ ap (λ ds. with_done ds (record { unit = o.unit; work = work; versions = o.versions })) (ready.works ∙ s.done)) in
       let risen : with_all b.nodes raised ≡ all_raised m b.nodes work.posts =
       subst (λ hs. with_all hs raised ≡ all_raised m hs work.posts) s.nodes rise in
-      let back = post-behind journal p'.turns.journal seat o work raised
-      (event ∙ ap (λ t. t.journal ++ Post seat o.unit ∷ []) ready.turns ∙ ap (λ j. j ++ Post seat o.unit ∷ []) was) is own risen in
-      subst (λ c. Shows c p') (sym back) shown
+      subst (λ c. Shows c p') (sym (post-behind b seat o work raised is own risen)) shown
+
+  -- the book of a journal behind a post, with one more event
+  pub journal-posted : (journal journal' : List Event) (p' : Parts A) (seat : ℕ) (u : WorkUnit) → journal' ≡ journal ++ Post seat u ∷ []
+      → Shows (after m (replay m journal) (Post seat u)) p' → Shows (replay m journal') p'
+  journal-posted journal journal' p' seat u e s =
+      subst (λ c. Shows c p') (sym (ap (λ j. replay m j) e ∙ replay-push m journal (Post seat u))) s

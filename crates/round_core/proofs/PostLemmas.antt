@@ -39,14 +39,14 @@ same_place : (a c : ℕ) (o : Option ℕ) → o ≡ Some a → o ≡ Some c → 
 same_place a c o e f = let g : Some a ≡ Some c = sym e ∙ f in cc
 
 module _ {A : Type 0} where
-  done_at-same : (ds : List (Done A)) (x : Done A) → done_at (with_done ds x) x.unit ≡ Some x
+  pub done_at-same : (ds : List (Done A)) (x : Done A) → done_at (with_done ds x) x.unit ≡ Some x
   done_at-same [] x = if_true _ _ _ (same_unit-refl x.unit)
   done_at-same (d ∷ ds) x = elim (truth (same_unit x.unit d.unit)) [
     | inl s ↦ ap (λ t. done_at t x.unit) (if_true _ _ _ s) ∙ if_true _ _ _ (same_unit-refl x.unit)
     | inr s ↦ ap (λ t. done_at t x.unit) (if_false _ _ _ s) ∙ if_false _ _ _ s ∙ done_at-same ds x
   ]
 
-  done_at-other : (ds : List (Done A)) (x : Done A) (v : WorkUnit) → same_unit v x.unit ≡ false → done_at (with_done ds x) v ≡ done_at ds v
+  pub done_at-other : (ds : List (Done A)) (x : Done A) (v : WorkUnit) → same_unit v x.unit ≡ false → done_at (with_done ds x) v ≡ done_at ds v
   done_at-other [] x v o = if_false _ _ _ o
   done_at-other (d ∷ ds) x v o = elim (truth (same_unit x.unit d.unit)) [
     | inl s ↦

@@ -8,6 +8,7 @@ pub mod Nodes
 pub mod Opening
 pub mod Prepared
 pub mod Raise
+pub mod Renewal
 pub mod Reserved
 pub mod Returns
 pub mod Rows

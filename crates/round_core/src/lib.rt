@@ -4,6 +4,7 @@
 
 mod agenda;
 mod ahead;
+mod beginning;
 mod book;
 mod candidates;
 mod claim;
@@ -19,6 +20,7 @@ mod places;
 mod post;
 mod raise;
 mod raised;
+mod renewal;
 mod spent;
 mod table;
 mod ticket;

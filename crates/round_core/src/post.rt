@@ -12,15 +12,50 @@ ghost use Rattle.book_rules.specs.declared.event.Event.{Event};
 use crate::ahead::Ahead;
 use crate::book::Book;
 use crate::parts::Parts;
+use crate::place::Place;
 use crate::raise::all_raised;
 use crate::raised::Raised;
 use crate::ticket::Done;
-use book_rules::outs_have_their_nodes;
-use chip_analysis::Chip;
+use book_rules::{Versions, outs_have_their_nodes};
+use call_context::Unit;
+use chip_analysis::{Chip, Work};
 use no_memory::Memory;
 
-/// All that may fail of a post, for want of memory alone. It changes nothing that the parts stand for, and answers
-/// the nodes that the post raises.
+/// All that may fail of a post, for want of memory alone: that of a unit at a place, which was claimed at these versions. It
+/// changes nothing that the parts stand for, and answers the nodes that the post raises.
+pub fn prepare_work<C: Chip>(
+    chip: &C,
+    parts: &mut Parts<C::Abs>,
+    unit: &Unit,
+    place: Place,
+    claimed: Versions,
+    work: &Work<C::Abs>,
+    ahead: Ahead<C::Abs>,
+) -> Result<Raised<C::Abs>, Memory>
+    requires ahead { AreBefore (C.analysis (C.base chip.now)) parts.old.nodes.rows work.now.posts ahead }
+    ensures shown { StaysShown parts.old parts.new }
+    ensures journal { parts.new.turns.journal ≡ parts.old.turns.journal }
+    ensures raised { IfOk result (λ raised. risen_over parts.old.nodes.rows raised
+        ≡ all_raised (C.analysis (C.base chip.now)) parts.old.nodes.rows work.now.posts) }
+    ensures prepared { IfOk result (λ raised. IsPrepared parts.old parts.new unit.now claimed work.now.waits
+        (held_rows raised.rows.items)) }
+    ensures placed { IfOk result (λ raised. ArePlaced parts.old.nodes.rows raised.rows.items) }
+{
+    let alloc = parts.nodes.allocator();
+    let guess = parts.works.posted(place);
+    let raised = all_raised(
+        alloc,
+        chip,
+        &parts.nodes,
+        work.posts.as_slice(),
+        guess,
+        ahead,
+    )?;
+    parts.prepare(unit, place, claimed, work.waits.as_slice(), &raised)?;
+    Ok(raised)
+}
+
+/// The same of the work of a ticket.
 fn prepare<C: Chip>(
     chip: &C,
     parts: &mut Parts<C::Abs>,
@@ -36,14 +71,16 @@ fn prepare<C: Chip>(
         done.now.ticket.versions done.now.work.waits (held_rows raised.rows.items)) }
     ensures placed { IfOk result (λ raised. ArePlaced parts.old.nodes.rows raised.rows.items) }
 {
-    let alloc = parts.nodes.allocator();
     let (unit, place) = (done.ticket.unit(), done.ticket.place());
-    let guess = parts.works.posted(place);
-    let posts = done.work.posts.as_slice();
-    let raised = all_raised(alloc, chip, &parts.nodes, posts, guess, ahead)?;
-    let claimed = done.ticket.versions();
-    parts.prepare(unit, place, claimed, done.work.waits.as_slice(), &raised)?;
-    Ok(raised)
+    prepare_work(
+        chip,
+        parts,
+        unit,
+        place,
+        done.ticket.versions(),
+        &done.work,
+        ahead,
+    )
 }
 
 impl<C: Chip> Book<C> {

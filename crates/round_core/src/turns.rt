@@ -88,6 +88,13 @@ impl Turns {
         self.journal
     }
 
+    /// Forgets what happened.
+    pub fn clear_journal(&mut self)
+        ensures { self.new ≡ record self.old { journal = [] } }
+    {
+        self.journal.clear();
+    }
+
     /// The places that were given back since the last claim.
     pub fn returned(&self) -> &[Place]
         ensures { result.now ≡ self.now.returned }

@@ -1,4 +1,4 @@
-use Rattle.std.proofs.Common.{◌≡◌, ◌∙◌, ◌++◌, ◌∷◌, [], ap, sym, subst, refl}
+use Rattle.std.proofs.Common.{◌≡◌, ◌∙◌, ◌++◌, ◌∷◌, [], ap, sym, subst}
 use Rattle.std.proofs.Math.Path.{ap₂}
 use Rattle.round_core.specs.Ahead.{AreLooked}
 use Rattle.book_rules.specs.declared.event.Event.TheVariants.{Post}
@@ -8,7 +8,7 @@ use Rattle.book_rules.specs.Stays.{AllStay}
 use Rattle.round_core.specs.Turns.{place_out, TakesHome}
 use Rattle.round_core.proofs.Cases.{is_some_of}
 use Rattle.round_core.proofs.ClaimEvent.{legal-out, book-stays, legal-more}
-use Rattle.round_core.proofs.PostEvent.{posted-shown}
+use Rattle.round_core.proofs.PostEvent.{journal-posted, posted-shown}
 use Rattle.round_core.proofs.book.Book.post_ahead.Goals as goal
 
 pub invariant_of-self : goal.invariant_of-self
@@ -30,12 +30,13 @@ invariant_of-self g c =
     c.in-Ok.ensures.raised ∙ ap (λ base. all_raised (g.C.Chip.analysis base) p.nodes.rows work.posts) (c.requires.chip ∙ sym same_base) in
     let more = c.post.ensures.journal ∙ ap (λ u. q.turns.journal ++ Post seat u ∷ []) parts.1 in
     record {
-      shows = posted-shown m p.turns.journal p q p' seat t work raised c.self.invariant.shows refl out own c.in-Ok.ensures.prepared rise
+      shows = journal-posted m p.turns.journal p'.turns.journal p' seat t.unit
+          (more ∙ ap (λ j. j ++ Post seat t.unit ∷ []) c.prepare.ensures.journal)
+          (posted-shown m (replay m p.turns.journal) p q p' seat t work raised c.self.invariant.shows out own c.in-Ok.ensures.prepared rise
           c.post.ensures.nodes
           (c.post.ensures.works ∙ ap₂ (λ u v. with_done q.works.rows (record { unit = u; work = work; versions = v })) parts.1 parts.2)
-          more
           (subst (λ u. TakesHome q.turns.out u p'.turns.out) parts.1 c.post.ensures.out)
-          c.post.ensures.returned c.post.ensures.agenda;
+          c.post.ensures.returned c.post.ensures.agenda);
       legal = legal-more m p.turns.journal p'.turns.journal (Post seat t.unit) (more ∙ ap (λ j. j ++ Post seat t.unit ∷ []) c.prepare.ensures.journal)
           c.self.invariant.legal (t, out, sym parts.0);
     }
