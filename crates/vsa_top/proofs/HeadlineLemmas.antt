@@ -44,7 +44,7 @@ use Rattle.vsa_top.specs.Asserted.{AreAsserted, HoldOn, broken_in, spaces_of, st
 use Rattle.vsa_top.specs.Family.{family_of}
 use Rattle.vsa_top.specs.Laws.{IsGiven}
 use Rattle.vsa_top.specs.Certified.{IsClosedCertOf}
-use Rattle.vsa_top.specs.Headline.{CertifiesOn, CoversRunsOf, HoldsOf, LeavesOpen, ReportsOn, ShowsSitesOf}
+use Rattle.vsa_top.specs.Headline.{BoundsStackOf, CertifiesOn, CoversRunsOf, HoldsOf, LeavesOpen, ReportsOn, ShowsSitesOf}
 use Rattle.vsa_top.specs.Input.{text_limit, front_of, input_of, AreTexts, Gives, InputGives, IsBad, IsTooLong, IsImageOf}
 use Rattle.image.specs.declared.chip_name.ChipName.{ChipName}
 use Rattle.image.specs.declared.chip_name.ChipName.TheVariants as chip
@@ -129,6 +129,13 @@ covers_image truths target limits workers image report journal given is =
     subst (CoversRunsOf target image) (sym is.text_is)
     ((truths target limits image given).covers journal made.legal made.finished (closed_works target limits workers image report journal is))
 
+bounds_image : HaveTruths → (target : Target) (limits : Limits) (workers : ℕ) (image : List (Option ℕ)) (report : List ℕ) (journal : List Event)
+    → IsGiven target limits image → IsAnalysedOn target limits workers image Done report journal → BoundsStackOf target image report
+bounds_image truths target limits workers image report journal given is =
+    let made = is.is_analysis in
+    subst (BoundsStackOf target image) (sym is.text_is)
+    ((truths target limits image given).bounds journal made.legal made.finished (closed_works target limits workers image report journal is))
+
 shows_image : HaveTruths → (target : Target) (limits : Limits) (workers : ℕ) (image : List (Option ℕ)) (report : List ℕ) (journal : List Event)
     → IsGiven target limits image → IsAnalysedOn target limits workers image Open report journal
     → ShowsSitesOf target limits image journal report
@@ -157,29 +164,48 @@ pub given_image : HaveRules → (task : Task) (text : List ℕ) (image : List (O
 given_image rules task text image range end few denoted =
     record { read = rules (target_rules task.target) Blank (texts.lines_of text) image denoted; ram = range; top = end; calls = few.0 }
 
-closed_reply : HaveTruths → HaveRules → HaveOneImage → (task : Task) → IsRamRange (target_rules task.target)
-    → EndsInMemory (target_rules task.target) → IsBounded (Analyse task)
+-- what each report that is told as closed has
+abbrev HasClosed : Task → (List (Option ℕ) → List ℕ → Type 0) → Type 0
+HasClosed task P = (image : List (Option ℕ)) (report : List ℕ) (journal : List Event) → IsGiven task.target task.limits image
+    → IsAnalysedOn task.target task.limits task.workers image Done report journal → P image report
+
+closed_reply : (task : Task) (P : List (Option ℕ) → List ℕ → Type 0) → HasClosed task P → HaveRules → HaveOneImage
+    → IsRamRange (target_rules task.target) → EndsInMemory (target_rules task.target) → IsBounded (Analyse task)
     → (input : Option (List ℕ)) (written : List ℕ) (journal : List Event)
     → IsReply (Analyse task) input Done written journal → (text : List ℕ) (image : List (Option ℕ)) → input ≡ Some text
     → Denotes (target_rules task.target) Blank (texts.lines_of text) image
-    → (is : IsReportedOn task.target task.limits task.workers task.cert image Done written journal) × CoversRunsOf task.target image is.report
-closed_reply truths rules one task range end few input written journal (of_image other second gives reply) text image e denoted =
+    → (is : IsReportedOn task.target task.limits task.workers task.cert image Done written journal) × P image is.report
+closed_reply task P has rules one range end few input written journal (of_image other second gives reply) text image e denoted =
     let is = analysed one task input second Done written journal text image other gives reply e denoted in
-    (is, covers_image truths task.target task.limits task.workers image is.report journal (given_image rules task text image range end few denoted) is.analysed)
-closed_reply truths rules one task range end few input written journal (of_bad line fault bad is line_is none) text image e denoted = absurd (cc)
-closed_reply truths rules one task range end few input written journal (of_long long is line_is none) text image e denoted = absurd (cc)
+    (is, has image is.report journal (given_image rules task text image range end few denoted) is.analysed)
+closed_reply task P has rules one range end few input written journal (of_bad line fault bad is line_is none) text image e denoted = absurd (cc)
+closed_reply task P has rules one range end few input written journal (of_long long is line_is none) text image e denoted = absurd (cc)
+
+closed_by : (task : Task) (P : List (Option ℕ) → List ℕ → Type 0) → HasClosed task P → HaveRules → HaveOneImage
+    → (input before after : Option (List ℕ)) (journal : List Event)
+    → IsRamRange (target_rules task.target) → EndsInMemory (target_rules task.target) → IsBounded (Analyse task)
+    → Answers (Analyse task) Done input before after journal → ReportsOn task input before after journal P
+closed_by task P has rules one input before after journal range end few answers text image e denoted =
+    let given = gives_reply (Analyse task) Done input before after journal answers ((λ f. cc f), (λ f. cc f)) (λ f. cc f) in
+    let told = closed_reply task P has rules one range end few input given.text journal given.reply text image e denoted in (
+      told.0.report,
+      record { text = given.text; followed = told.0.followed; held = given.held },
+      told.1,
+    )
 
 pub closed_lem : HaveTruths → HaveRules → HaveOneImage
     → (task : Task) (input before after : Option (List ℕ)) (journal : List Event)
     → IsRamRange (target_rules task.target) → EndsInMemory (target_rules task.target) → IsBounded (Analyse task)
     → Answers (Analyse task) Done input before after journal → ReportsOn task input before after journal (CoversRunsOf task.target)
-closed_lem truths rules one task input before after journal range end few answers text image e denoted =
-    let given = gives_reply (Analyse task) Done input before after journal answers ((λ f. cc f), (λ f. cc f)) (λ f. cc f) in
-    let told = closed_reply truths rules one task range end few input given.text journal given.reply text image e denoted in (
-      told.0.report,
-      record { text = given.text; followed = told.0.followed; held = given.held },
-      told.1,
-    )
+closed_lem truths rules one task = closed_by task (CoversRunsOf task.target)
+    (λ image report journal. covers_image truths task.target task.limits task.workers image report journal) rules one
+
+pub bounded_lem : HaveTruths → HaveRules → HaveOneImage
+    → (task : Task) (input before after : Option (List ℕ)) (journal : List Event)
+    → IsRamRange (target_rules task.target) → EndsInMemory (target_rules task.target) → IsBounded (Analyse task)
+    → Answers (Analyse task) Done input before after journal → ReportsOn task input before after journal (BoundsStackOf task.target)
+bounded_lem truths rules one task = closed_by task (BoundsStackOf task.target)
+    (λ image report journal. bounds_image truths task.target task.limits task.workers image report journal) rules one
 
 end_ends : (target : Target) (steps : ℕ) (end : End) → Ends (Run target steps) (status_of_end end)
 end_ends target steps ended.Ran = ran_on target steps

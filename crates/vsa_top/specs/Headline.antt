@@ -6,7 +6,7 @@ use Rattle.ihex_read.specs.ImageText.{Denotes}
 use Rattle.text_lines.specs.Lines as texts
 use Rattle.streams.specs.Stream.{appended}
 use Rattle.book_rules.specs.declared.event.Event.{Event}
-use Rattle.report_text.specs.Promise.{CoversEveryRun, ShowsOpenSites}
+use Rattle.report_text.specs.Promise.{BoundsStack, CoversEveryRun, ShowsOpenSites}
 use Rattle.assert_check.specs.Lines.{assertions_of}
 use Rattle.assert_check.specs.declared.assertion.Assertion.{Assertion}
 use Rattle.vsa_top.specs.Answer.{IsFollowed}
@@ -21,6 +21,10 @@ use Rattle.vsa_words.specs.Words.{target_rules}
 -- the report covers every run of the chip with this image
 abbrev pub CoversRunsOf : Target → (image : List (Option ℕ)) → (report : List ℕ) → Type 0
 CoversRunsOf target image report = let f = family_of target image in CoversEveryRun f.machine f.text_of report
+
+-- the `T` line of the report bounds the stack of every run of the chip with this image
+abbrev pub BoundsStackOf : Target → (image : List (Option ℕ)) → (report : List ℕ) → Type 0
+BoundsStackOf target image report = BoundsStack (family_of target image).machine report
 
 -- the report shows the open sites of the chip's analysis under these limits, of the book that the journal leads to
 abbrev pub ShowsSitesOf : Target → Limits → (image : List (Option ℕ)) → List Event → (report : List ℕ) → Type 0

@@ -13,7 +13,7 @@ use Rattle.chip_analysis.specs.Analysis.{Analysis}
 use Rattle.chip_law.specs.Machine.{Machine}
 use Rattle.image.specs.Kept.{IsRamRange, IsReadUnder}
 use Rattle.report_bytes.specs.Report.{are_closed, last_works, report_of_journal}
-use Rattle.report_text.specs.Promise.{CoversEveryRun, ShowsOpenSites}
+use Rattle.report_text.specs.Promise.{BoundsStack, CoversEveryRun, ShowsOpenSites}
 use Rattle.state_text.specs.Texts.{StateTexts}
 use Rattle.vsa_top.specs.Asserted.{broken_in}
 use Rattle.vsa_top.specs.Certified.{IsClosedCert}
@@ -36,6 +36,10 @@ pub record AreTrue {S A : Type 0} (machine : Machine S) (analysis : Analysis A) 
   pub covers : (journal : List Event) → IsLegalJournal analysis journal → IsFinished (replay analysis journal)
       → are_closed (last_works analysis journal) ≡ true
       → CoversEveryRun machine text_of (report_of_journal text_of analysis journal)
+  -- and its `T` line bounds the stack of every run
+  pub bounds : (journal : List Event) → IsLegalJournal analysis journal → IsFinished (replay analysis journal)
+      → are_closed (last_works analysis journal) ≡ true
+      → BoundsStack machine (report_of_journal text_of analysis journal)
   -- that of another shows its open sites
   pub shows : (journal : List Event) → IsLegalJournal analysis journal → IsFinished (replay analysis journal)
       → are_closed (last_works analysis journal) ≡ false

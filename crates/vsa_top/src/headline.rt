@@ -15,13 +15,13 @@ ghost use Rattle.vsa_words.specs.declared.reading.Reading.{Reading as AReading};
 ghost use Rattle.vsa_words.specs.declared.reading.Task.{Task as ATask};
 ghost use Rattle.vsa_top.specs.Certified.{IsClosedCertOf};
 ghost use Rattle.vsa_top.specs.Scripts.{second_limit};
-ghost use Rattle.vsa_top.specs.Headline.{CertifiesOn, CoversRunsOf, HoldsOf, LeavesOpen, ReportsOn, ShowsSitesOf};
+ghost use Rattle.vsa_top.specs.Headline.{BoundsStackOf, CertifiesOn, CoversRunsOf, HoldsOf, LeavesOpen, ReportsOn, ShowsSitesOf};
 
 use crate::laws::families_have_laws;
 use ihex_read::{ended_texts_stay, image_or_fault, images_keep_rules};
 use made_programs::made_texts_denote;
 
-/// A report that is told as closed covers every run, and one that is told as open shows its open sites. Analyses alone are
+/// A report that is told as closed covers every run, and its `T` line bounds the stack of each; one that is told as open shows its open sites. Analyses alone are
 /// told as open, with or without assertions. Assertions that are told to hold do so on every run, and the report of a
 /// certificate that is told as closed covers every run. An image within the limit gets what is asked of it where nothing
 /// fails and memory is there, and so does each made program.
@@ -29,6 +29,10 @@ pub(crate) fn reports_hold()
     ensures closed { (task : ATask) (input before after : Option (List ℕ)) (journal : List AnEvent)
         → IsRamRange (rules_of (Analyse task)) → EndsInMemory (rules_of (Analyse task)) → IsBounded (Analyse task) → Answers (Analyse task) Done input before after journal →
         ReportsOn task input before after journal (CoversRunsOf task.target) }
+    ensures bounded { (task : ATask) (input before after : Option (List ℕ)) (journal : List AnEvent)
+        → IsRamRange (rules_of (Analyse task)) → EndsInMemory (rules_of (Analyse task)) → IsBounded (Analyse task)
+        → Answers (Analyse task) Done input before after journal
+        → ReportsOn task input before after journal (BoundsStackOf task.target) }
     ensures open { (task : ATask) (input before after : Option (List ℕ)) (journal : List AnEvent)
         → IsRamRange (rules_of (Analyse task)) → EndsInMemory (rules_of (Analyse task)) → IsBounded (Analyse task) → Answers (Analyse task) Open input before after journal →
         ReportsOn task input before after journal (λ image report. ShowsSitesOf task.target task.limits image journal report) }

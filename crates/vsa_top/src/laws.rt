@@ -17,7 +17,10 @@ use closing_law::closed_books_cover_runs;
 use mcs51_flow::{Mcs51Chip, stacks_grow_by_bytes};
 use msp430_flow::{Msp430Chip, stacks_grow_by_words};
 use report_bytes::closed_books_are_told;
-use report_text::{closed_reports_cover_runs, closed_works_cover_runs, open_reports_show_sites};
+use report_text::{
+    closed_reports_bound_stacks, closed_reports_cover_runs, closed_works_cover_runs,
+    open_reports_show_sites,
+};
 use state_text::LawfulText;
 use worker_rounds::turns_are_one;
 
@@ -29,6 +32,7 @@ fn chips_have_laws<C: LawfulChip + LawfulText>()
         → AreOne (C.analysis base) (C.texts base) text_of }
 {
     closed_reports_cover_runs::<C>();
+    closed_reports_bound_stacks::<C>();
     open_reports_show_sites::<C>();
     closed_books_cover_runs::<C>();
     unbroken_lists_hold::<C>();

@@ -5,7 +5,7 @@ ghost use Rattle.streams.specs.Stream.{HasRisen, AppendsPrefix, appended};
 ghost use Rattle.image.specs.declared.tail.Tail.TheVariants.{Second};
 ghost use Rattle.image.specs.Kept.{IsRamRange};
 ghost use Rattle.vsa_top.specs.Certified.{IsClosedCertOf};
-ghost use Rattle.vsa_top.specs.Headline.{CertifiesOn, CoversRunsOf, HoldsOf, LeavesOpen, ReportsOn, ShowsSitesOf};
+ghost use Rattle.vsa_top.specs.Headline.{BoundsStackOf, CertifiesOn, CoversRunsOf, HoldsOf, LeavesOpen, ReportsOn, ShowsSitesOf};
 ghost use Rattle.image.specs.declared.chip_name.ChipName.{ChipName as AChip};
 ghost use Rattle.vsa_words.specs.declared.reading.Reading.TheVariants.{Analyse, Assert, Check, Gen};
 ghost use Rattle.vsa_words.specs.declared.reading.Reading.{Reading as AReading};
@@ -114,6 +114,10 @@ pub fn vsa<R: Threads + Wait + Sync, S: Source, K: Sink, G: Gate + Sync>(
     // journal leads to.
     ensures headline { (task : ATask) → Reads words.now (Analyse task) → result.status ≡ Status.Done
         → ReportsOn task (S.left source.old) (K.held sink.old) (K.held sink.new) result.journal.items (CoversRunsOf task.target) }
+    // There the `T` line names the deepest stack pointer that the `S` lines tell, and no run's is deeper in front of any step, but
+    // where the `S` line is one that it counts, which tells all numbers: so the stack can be sized by it.
+    ensures stack { (task : ATask) → Reads words.now (Analyse task) → result.status ≡ Status.Done
+        → ReportsOn task (S.left source.old) (K.held sink.old) (K.held sink.new) result.journal.items (BoundsStackOf task.target) }
     // Where the words ask an analysis and the status is Open, the report says OPEN and shows each open site, of which there
     // is one: the address of a location of the book at which, by its state, the limit that its cause names is broken.
     ensures open_sites { (task : ATask) → Reads words.now (Analyse task) → result.status ≡ Status.Open

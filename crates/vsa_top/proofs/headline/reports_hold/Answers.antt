@@ -1,10 +1,14 @@
 use Rattle.vsa_top.proofs.CheckedLemmas.{exact_lem, verdict_lem}
-use Rattle.vsa_top.proofs.HeadlineLemmas.{asserted_lem, certified_lem, closed_lem, open_lem, left_open_lem, open_alone_lem, complete_lem, made_lem}
+use Rattle.vsa_top.proofs.HeadlineLemmas.{asserted_lem, bounded_lem, certified_lem, closed_lem, open_lem, left_open_lem, open_alone_lem, complete_lem, made_lem}
 use Rattle.vsa_top.proofs.headline.reports_hold.Goals as goal
 
 pub returns-clause-closed : goal.returns-clause-closed
 returns-clause-closed c =
     closed_lem c.families_have_laws.ensures.truths c.images_keep_rules.ensures c.image_or_fault.ensures.one_image
+
+pub returns-clause-bounded : goal.returns-clause-bounded
+returns-clause-bounded c =
+    bounded_lem c.families_have_laws.ensures.truths c.images_keep_rules.ensures c.image_or_fault.ensures.one_image
 
 pub returns-clause-open : goal.returns-clause-open
 returns-clause-open c = open_lem c.families_have_laws.ensures.truths c.images_keep_rules.ensures c.image_or_fault.ensures.one_image

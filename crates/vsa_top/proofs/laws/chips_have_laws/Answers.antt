@@ -11,6 +11,7 @@ returns-clause-truths g c = λ base text_of program stack.
     let machine = g.C.LawfulChip.machine base in
     let works = last_works (g.C.Chip.analysis base) in record {
       covers = λ journal. c.closed_reports_cover_runs.ensures base text_of journal program;
+      bounds = λ journal. c.closed_reports_bound_stacks.ensures base text_of journal program stack;
       shows = λ journal. c.open_reports_show_sites.ensures base text_of journal program;
       holds = λ list journal legal finished closed. c.unbroken_lists_hold.ensures base (works journal) (item_line_of text_of) list
           (c.closed_books_cover_runs.ensures base journal program legal finished (none_open (works journal) closed));

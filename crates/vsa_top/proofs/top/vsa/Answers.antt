@@ -11,6 +11,12 @@ returns-in-Ok-Some-clause-headline g c = λ task reads told.
     let is = read_as c.in-Ok-Some.field-0-is read.alone read.range read.end read.bounded c.answer.ensures.answer (Analyse task) reads in
     c.reports_hold.ensures.closed task _ _ _ _ is.range is.end is.bounded (as_told told is.answer)
 
+pub returns-in-Ok-Some-clause-stack : goal.returns-in-Ok-Some-clause-stack
+returns-in-Ok-Some-clause-stack g c = λ task reads told.
+    let read = c.in-Ok-Some.ensures in
+    let is = read_as c.in-Ok-Some.field-0-is read.alone read.range read.end read.bounded c.answer.ensures.answer (Analyse task) reads in
+    c.reports_hold.ensures.bounded task _ _ _ _ is.range is.end is.bounded (as_told told is.answer)
+
 pub returns-in-Ok-Some-clause-open_sites : goal.returns-in-Ok-Some-clause-open_sites
 returns-in-Ok-Some-clause-open_sites g c = λ task reads told.
     let read = c.in-Ok-Some.ensures in
