@@ -15,4 +15,4 @@ returns-clause-tickets g c =
     c.pop-second.ensures.items ∙ ap (λ ts. ts ++ second) c.pop-first.ensures.items ∙ append_assoc left first second in
     back_out g.C.Chip.analysis new left (first ++ second)
     (subst (λ ts. AreOutTo g.C.Chip.analysis new ts) whole
-    (back_out g.C.Chip.analysis new (tickets_of r.unposted.items) r.tickets.items c.exchange-exchanged.ensures.still_out))
+    (back_out g.C.Chip.analysis new (tickets_of r.unposted.items) r.tickets.items c.exchange-exchanged.ensures.exchanges.still_out))
