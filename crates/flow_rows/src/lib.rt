@@ -1,4 +1,4 @@
-//! Rows of the analyses of both chips, asked by themselves, of copies of devices, and of printing.
+//! Rows of the analyses of both chips, asked by themselves, of stores under a promise, of copies of devices, and of printing.
 #![tactic(auto)]
 
 #[cfg(test)]
@@ -11,3 +11,5 @@ mod mcs51_marks;
 mod msp430_marks;
 #[cfg(test)]
 mod printing;
+#[cfg(test)]
+mod promised;
