@@ -36,6 +36,15 @@ fn number_of(text: &str) -> (u64, &str) {
     (number.parse::<u64>().unwrap_or(0), rest)
 }
 
+/// How a stream's failing calls are told: the status, whether the stream is the source, and how many bytes of the answer each call
+/// in front of them has had written.
+#[derive(Clone, Copy)]
+struct Fault {
+    status: &'static str,
+    of_source: bool,
+    piece: usize,
+}
+
 impl Rows {
     /// A source of so many bytes of the input, by the pieces of the source's row, that fails at this call.
     fn source_of(
@@ -73,38 +82,13 @@ impl Rows {
         Ok(told.as_str() == cut.0 && front == Some(sink.bytes()))
     }
 
-    /// The row `reads COUNT STATUS WORDS`: a source that fails at one of its first COUNT calls gives ReadFault, and nothing is
-    /// written; the call behind them never comes, so that the answer is whole and has this status.
-    pub fn are_reads<R: Threads + Wait + AllocGlobal + Sync>(
+    /// The table of one stream's calls: where one of the first COUNT fails, the status is that of the fault, and so many bytes
+    /// more of the answer are there with each call; the call behind them never comes, so that the answer is whole.
+    fn are_faults<R: Threads + Wait + AllocGlobal + Sync>(
         &self,
         rt: &R,
         line: &str,
-    ) -> Result<bool, AllocError> {
-        let alloc = rt.alloc();
-        let (count, row) = number_of(line);
-        let (status, line) = row.split_once(' ').unwrap_or((row, ""));
-        let words = words_of(alloc, line)?;
-        for call in 1..=count.saturating_add(1) {
-            let cut = if call <= count {
-                ("ReadFault", 0)
-            } else {
-                (status, self.answer.len())
-            };
-            let source = self.source_of(alloc, self.input.len(), Some(call))?;
-            let sink = self.sink_of(alloc, None)?;
-            if !self.is_cut(rt, words.as_slice(), source, sink, cut)? {
-                return Ok(false);
-            }
-        }
-        Ok(true)
-    }
-
-    /// The row `writes COUNT STATUS WORDS`: a sink that fails at one of its first COUNT calls, of so many bytes each as its row
-    /// says, gives WriteFault and holds what the calls in front of it took; the call behind them never comes.
-    pub fn are_writes<R: Threads + Wait + AllocGlobal + Sync>(
-        &self,
-        rt: &R,
-        line: &str,
+        fault: Fault,
     ) -> Result<bool, AllocError> {
         let alloc = rt.alloc();
         let (count, row) = number_of(line);
@@ -113,18 +97,48 @@ impl Rows {
         let mut length = 0usize;
         for call in 1..=count.saturating_add(1) {
             let cut = if call <= count {
-                ("WriteFault", length)
+                (fault.status, length)
             } else {
                 (status, self.answer.len())
             };
-            let source = self.source_of(alloc, self.input.len(), None)?;
-            let sink = self.sink_of(alloc, Some(call))?;
+            let source = self.source_of(alloc, self.input.len(), fault.of_source.then_some(call))?;
+            let sink = self.sink_of(alloc, (!fault.of_source).then_some(call))?;
             if !self.is_cut(rt, words.as_slice(), source, sink, cut)? {
                 return Ok(false);
             }
-            length = length.saturating_add(piece_of(&self.sink));
+            length = length.saturating_add(fault.piece);
         }
         Ok(true)
+    }
+
+    /// The row `reads COUNT STATUS WORDS`: a source that fails at one of its first COUNT calls gives ReadFault, and nothing is
+    /// written.
+    pub fn are_reads<R: Threads + Wait + AllocGlobal + Sync>(
+        &self,
+        rt: &R,
+        line: &str,
+    ) -> Result<bool, AllocError> {
+        let fault = Fault {
+            status: "ReadFault",
+            of_source: true,
+            piece: 0,
+        };
+        self.are_faults(rt, line, fault)
+    }
+
+    /// The row `writes COUNT STATUS WORDS`: a sink that fails at one of its first COUNT calls, of so many bytes each as its row
+    /// says, gives WriteFault and holds what the calls in front of it took.
+    pub fn are_writes<R: Threads + Wait + AllocGlobal + Sync>(
+        &self,
+        rt: &R,
+        line: &str,
+    ) -> Result<bool, AllocError> {
+        let fault = Fault {
+            status: "WriteFault",
+            of_source: false,
+            piece: piece_of(&self.sink),
+        };
+        self.are_faults(rt, line, fault)
     }
 
     /// The row `fronts FIRST LAST STATUS WORDS`: each front of the input that has from FIRST to LAST bytes gives this status and
